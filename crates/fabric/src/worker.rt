@@ -55,6 +55,11 @@ pub trait Outgoing {
         false
     }
 
+    /// Whether a leader passes over a replica's votes: in another one's certificate they weren't right for it.
+    fn passes_over<R: Wait>(&self, _rt: &R, _voter: ReplicaId) -> bool {
+        false
+    }
+
     /// The milliseconds since some moment.
     fn millis<R: Clock>(&self, _rt: &R) -> u64 {
         0

@@ -13,6 +13,7 @@ use crate::guarded::Guarded;
 use crate::laggards::Reach;
 use crate::lying::{LiarStart, LyingOut};
 use crate::outside::Outside;
+use crate::passed_over::PassedOver;
 use crate::terms::{Liars, Terms};
 use crate::trouble::TroubleSign;
 use crate::watching::Progress;
@@ -35,7 +36,7 @@ use std::sync::atomic::Ordering::SeqCst;
 use std::sync::atomic::{AtomicBool, AtomicU64};
 use std::sync::{Arc, Mutex, MutexGuard, Wait};
 use std::time::Clock;
-use tuning::{LEAD_CLIMB, MOST_CLIMB};
+use tuning::{LEAD_CLIMB, LEAD_PART, MOST_CLIMB};
 use turns::Open;
 
 /// A replica under its lock, behind its doorkeeper, and where what is for it comes out.
@@ -51,6 +52,7 @@ pub(crate) struct Station<'a> {
     ended: AtomicU64,
     doubts: Doubts,
     trouble: TroubleSign,
+    passed_over: PassedOver,
     inbox: Arc<Inbox>,
     room: WaitingRoom,
 }
@@ -92,6 +94,11 @@ impl<'a> Station<'a> {
     /// What is wrong with frames that the replica refuses.
     pub(crate) fn doubts(&self) -> &Doubts {
         &self.doubts
+    }
+
+    /// Whose votes it passes over.
+    pub(crate) fn passed_over(&self) -> &PassedOver {
+        &self.passed_over
     }
 
     /// Whether there is trouble around the replica.
@@ -137,12 +144,13 @@ impl<'s, 'a> Timed<'s, 'a> {
             .0
             .saturating_add(1)
             .saturating_mul(MOST_CLIMB);
+        let (lock, further) = match from {
+            LeadFrom::Certified => (None, LEAD_CLIMB / LEAD_PART),
+            LeadFrom::Lock => (Some(replica.lock()), LEAD_CLIMB),
+        };
         Base {
-            lock: match from {
-                LeadFrom::Certified => None,
-                LeadFrom::Lock => Some(replica.lock()),
-            },
-            climb: above.saturating_add(LEAD_CLIMB).min(most),
+            lock,
+            climb: above.saturating_add(further).min(most),
         }
     }
 }
@@ -171,6 +179,7 @@ impl<'s, 'a> Watched for Timed<'s, 'a> {
 
     fn tell_trouble(&self, is_on: bool, view: View) {
         self.station.trouble.show(is_on, view);
+        self.station.passed_over.ask();
     }
 
     fn hand_in<R: Wait>(&self, rt: &R, due: Due) {
@@ -183,6 +192,9 @@ impl<'s, 'a> Watched for Timed<'s, 'a> {
         }
         if let Some(from) = due.lead {
             self.station.trouble.raise();
+            if from == LeadFrom::Lock {
+                self.station.passed_over.forget(rt);
+            }
             let base = self.base(rt, from);
             let _ = self.links.lead(rt, self.station.number, base);
         }
@@ -362,6 +374,7 @@ fn build_station<'a>(
         ended: AtomicU64::new(0),
         doubts: Doubts::none(),
         trouble: TroubleSign::none(),
+        passed_over: PassedOver::none(),
         inbox,
         room: WaitingRoom::new(alloc, keys.config(), terms.workers.count()),
     };
