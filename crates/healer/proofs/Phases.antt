@@ -1,15 +1,18 @@
 -- Phases of healing that come about, one after the other.
 use Rattle.std.specs.Prelude.{slice_index_or}
-use Rattle.std.proofs.Common.{ℕ, ◌+◌, ◌<◌, ◌≤◌, ◌≡◌, List, [], ◌∷◌, ◌++◌, map, length, take, sym, ap, subst, ◌∙◌, refl, Option, append_assoc}
+use Rattle.std.proofs.Common.{ℕ, ◌+◌, ◌<◌, ◌≤◌, ◌≡◌, List, [], ◌∷◌, ◌++◌, map, length, take, sym, ap, subst, ◌∙◌, refl, Option, append_assoc, Result, Ok, Err, OnOk}
 use Rattle.std.proofs.lemmas.List.{map-append, take_more, take_all}
 use Rattle.definitions.specs.Events.{happens}
 use Rattle.definitions.specs.Frames.{Frame}
 use Rattle.definitions.specs.Replicas.{MemorySupply.ample}
 use Rattle.definitions.specs.Runs.{after}
-use Rattle.definitions.specs.Worlds.{World, Event, Event.relay, Event.offer, Source.of_record, Happening}
+use Rattle.definitions.specs.Worlds.{World, Event, Event.relay, Event.offer, Event.lead, Source.of_record, Happening}
 use Rattle.recovery.specs.Correct.{amply}
-use Rattle.recovery.specs.Healing.{Phase, comes_to, offered_to}
+use Rattle.recovery.specs.Healing.{Phase, comes_to, offered_to, lead_with}
 use Rattle.world_schedule.specs.declared.event.Event as code
+use Rattle.world_schedule.specs.declared.event.Event.TheVariants.{Lead}
+use Rattle.ids.specs.declared.fault.Fault.{Fault}
+use Rattle.definitions.specs.Bytes.{Bytes}
 use Rattle.world_schedule.specs.Progress.{Stand, StandsAt}
 use Rattle.world_schedule.specs.Schedules.{event_of}
 use Rattle.healer.specs.Courses.{Course, Takes, Goes}
@@ -173,3 +176,13 @@ offers-next = goes-to-next offered_to offerings offers-more offers-none
 pub offers-all : (rs frames : List ℕ) (i : ℕ) (a b : Course) → length rs ≤ i
     → Goes a (λ w. amply (offered_to (take i rs) frames)) b → Goes a (λ w. amply (offered_to rs frames)) b
 offers-all = goes-to-all offered_to offerings offers-more offers-none
+
+-- ---- a lead
+
+pub leads-with : (k l : ℕ) (d : Bytes) (a m b : Course) (r : Result (Unit {0}) Fault) → Takes a (Lead l d) m
+    → OnOk r (Goes m (λ w. amply (comes_to (l ∷ []) (k ∷ []))) b) → OnOk r (Goes a (lead_with k l d) b)
+unfolding comes_to
+leads-with k l d a m b (Err n) t h = tt
+leads-with k l d a m b (Ok x) t h =
+    goes-both a m b (λ w. amply (lead l d ∷ [])) (λ w. amply (comes_to (l ∷ []) (k ∷ [])))
+    (goes-one a m (Lead l d) (lead l d) t (λ reads. refl)) h

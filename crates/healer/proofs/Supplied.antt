@@ -80,14 +80,14 @@ input-served self m i r = by r.standing
   where
     by : (s : Standing)
         → Served (elim s as (λ x. Replica × Reaction) [
-            | running ↦ on_ruling self m (ruling self i r.chronicle) r.chronicle
-            | stopped ↦ (r, fails fault.Stopped)
-            | cut_short held ↦ (r, fails fault.Stopped)
-          ]) (elim s as (λ x. Replica × Reaction) [
-            | running ↦ on_ruling self ample (ruling self i r.chronicle) r.chronicle
-            | stopped ↦ (r, fails fault.Stopped)
-            | cut_short held ↦ (r, fails fault.Stopped)
-          ])
+          | running ↦ on_ruling self m (ruling self i r.chronicle) r.chronicle
+          | stopped ↦ (r, fails fault.Stopped)
+          | cut_short held ↦ (r, fails fault.Stopped)
+        ]) (elim s as (λ x. Replica × Reaction) [
+          | running ↦ on_ruling self ample (ruling self i r.chronicle) r.chronicle
+          | stopped ↦ (r, fails fault.Stopped)
+          | cut_short held ↦ (r, fails fault.Stopped)
+        ])
     by running = ruling-served self m (ruling self i r.chronicle) r.chronicle
     by stopped = inr refl
     by (cut_short held) = inr refl
@@ -124,10 +124,10 @@ unfolding step
 input-quiet self i r h = by r.standing
   where
     by : (s : Standing) → IsQuiet self (elim s as (λ x. Replica × Reaction) [
-            | running ↦ on_ruling self ample (ruling self i r.chronicle) r.chronicle
-            | stopped ↦ (r, fails fault.Stopped)
-            | cut_short held ↦ (r, fails fault.Stopped)
-          ])
+      | running ↦ on_ruling self ample (ruling self i r.chronicle) r.chronicle
+      | stopped ↦ (r, fails fault.Stopped)
+      | cut_short held ↦ (r, fails fault.Stopped)
+    ])
     by running = ruling-quiet self (ruling self i r.chronicle) r.chronicle (h r.chronicle)
     by stopped = λ e. refl
     by (cut_short held) = λ e. refl
@@ -483,7 +483,7 @@ pub took : (event : code.Event) (old new : Stand) (hs : List Happening) (w : Wor
     → ((gs : List Happening) (v : World) → StandsAt old gs v → before ≡ length v.sent)
     → ((gs : List Happening) (v : World) → StandsAt new gs v → now ≡ length v.sent)
     → ((gs : List Happening) (v : World) (x : Option Fault) (more : List (Option Fault)) → StandsAt new gs v
-        → v.answers ≡ x ∷ more → a ≡ x)
+    → v.answers ≡ x ∷ more → a ≡ x)
     → lacked (asks_in event) (now == before) a ≡ false → Took old new event hs w
 took event old new hs w a before now holds same t g was is tells h = record {
   reads = g.is_event.0;
