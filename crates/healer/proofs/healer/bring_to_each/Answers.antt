@@ -11,9 +11,10 @@ loop-replica-init c = record {
 pub loop-replica-preserved : goal.loop-replica-preserved
 loop-replica-preserved c = record {
   origin = c.in_ok-bring_all.ensures.origin ∙ c.loop-replica.invariant.origin;
-  came = brings-next c.args.replicas.now c.args.frames.now c.loop-replica.replica-index 0 c.from.result
+  came = brings-next c.args.replicas.now c.args.frames.now c.loop-replica.replica-index
+      c.replica-item.result c.from.result
       c.args.healer.now c.loop-replica.healer c.bring_all.new.healer (omega (arith, c.loop-replica-test.true))
-      c.from.ensures c.loop-replica.invariant.came c.in_ok-bring_all.ensures.came;
+      (c.from.ensures ∙ c.replica-item.is) c.loop-replica.invariant.came c.in_ok-bring_all.ensures.came;
 }
 
 pub returns-clause-came : goal.returns-clause-came

@@ -1,4 +1,3 @@
-use Rattle.std.specs.Prelude.{slice_index_or}
 use Rattle.std.proofs.Common.{refl, arith, ◌∙◌}
 use Rattle.healer.proofs.Phases.{offers-first, offers-next, offers-all}
 use Rattle.healer.proofs.healer.offer_to_each.Goals as goal
@@ -12,9 +11,10 @@ loop-replica-init c = record {
 pub loop-replica-preserved : goal.loop-replica-preserved
 loop-replica-preserved c = record {
   origin = c.in_ok-offer_all.ensures.origin ∙ c.loop-replica.invariant.origin;
-  came = offers-next c.args.replicas.now c.args.frames.now c.loop-replica.replica-index 0 (slice_index_or c.args.replicas.now c.loop-replica.replica-index 0)
+  came = offers-next c.args.replicas.now c.args.frames.now c.loop-replica.replica-index
+      c.replica-item.result c.replica-item.result
       c.args.healer.now c.loop-replica.healer c.offer_all.new.healer (omega (arith, c.loop-replica-test.true))
-      refl c.loop-replica.invariant.came c.in_ok-offer_all.ensures.came;
+      c.replica-item.is c.loop-replica.invariant.came c.in_ok-offer_all.ensures.came;
 }
 
 pub returns-clause-came : goal.returns-clause-came
