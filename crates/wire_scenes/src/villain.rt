@@ -133,6 +133,13 @@ impl<R: AllocGlobal + Clock + Net<Stream = TcpStream>> Villain<'_, R> {
         is_closed(&visit.stream)
     }
 
+    /// Has a link, and sends its next frames.
+    pub(crate) fn comes_again(&self) -> Result<Visit> {
+        let visit = self.link()?;
+        let _ = (&mut &visit.stream).write_all(&self.frames(3, 6)?);
+        Ok(visit)
+    }
+
     /// Sends half a frame, and falls silent.
     pub(crate) fn sends_a_half(&self) -> Result<bool> {
         let visit = self.link()?;
@@ -154,7 +161,7 @@ impl<R: AllocGlobal + Clock + Net<Stream = TcpStream>> Villain<'_, R> {
         visit
             .stream
             .set_write_timeout(Some(Duration::from_millis(300)))?;
-        let piece = self.frames(3, 1003)?;
+        let piece = self.frames(6, 1006)?;
         let mut moved: u64 = 0;
         for _ in 0..1000 {
             match (&mut &visit.stream).write(&piece) {

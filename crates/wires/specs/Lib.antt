@@ -1,3 +1,4 @@
+pub mod Barring
 pub mod Receiving
 pub mod Writing
 pub mod Meeting

@@ -1,9 +1,11 @@
 //! Who comes in: connections are accepted, and belong to a peer once a handshake named it.
 
-ghost use Rattle.std.specs.Prelude.{◌≤◌};
+ghost use Rattle.std.specs.Prelude.{◌≡◌, ◌≤◌};
+ghost use Rattle.handshake.specs.Texts.{ask_in};
 
 use crate::wires::{Wires, new_nonce};
 use handshake::{AnswerBytes, AskBytes, Nonce, Peer, Refusal, greeting};
+use ids::PartyId;
 use std::alloc::Global;
 use std::collections::VecDeque;
 use std::io::{ErrorKind, Read, Write};
@@ -63,6 +65,14 @@ fn write_now(stream: &TcpStream, bytes: &[u8]) -> bool {
     }
 }
 
+/// Who an ask says that it comes from.
+fn asker(ask: &AskBytes) -> PartyId
+    ensures { result ≡ (ask_in ask.now).dialler }
+{
+    let [high, low, ..] = *ask;
+    PartyId(u16::from_be_bytes([high, low]))
+}
+
 /// Answers who was named, as whose link the connection goes on.
 fn answer(named: (Peer, AnswerBytes), stream: TcpStream) -> Look {
     let (peer, answer) = named;
@@ -97,7 +107,7 @@ impl Guest {
             Ok(named) => answer(named, self.stream),
             Err(refusal) => {
                 if refusal == Refusal::OtherSizes {
-                    wires.count_other_sizes();
+                    wires.note_other_sizes(asker(&self.ask));
                 }
                 Look::Goes
             }
@@ -205,9 +215,14 @@ impl Guests {
 }
 
 /// Puts a peer in its place. False where it has none.
-fn come_in<R: Wait + AllocGlobal>(rt: &R, wires: &Wires, peer: Peer, stream: TcpStream) -> bool {
+fn come_in<R: Wait + Clock + AllocGlobal>(
+    rt: &R,
+    wires: &Wires,
+    peer: Peer,
+    stream: TcpStream,
+) -> bool {
     match wires.slot(peer.party()) {
-        Some(slot) => slot.enter(rt, rt.alloc(), &wires.pace, peer, stream),
+        Some(slot) => slot.enter(rt, wires, peer, stream),
         None => false,
     }
 }

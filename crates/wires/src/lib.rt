@@ -20,6 +20,8 @@
 
 mod arrivals;
 mod backoff;
+mod bar;
+mod beginning;
 mod calling;
 mod door;
 mod end;
@@ -29,6 +31,7 @@ mod pace;
 mod receiving;
 mod running;
 mod sending;
+mod size_warning;
 mod slot;
 mod timed;
 mod wires;
@@ -39,6 +42,7 @@ pub use end::End;
 pub use pace::Pace;
 pub use receiving::receive;
 pub use running::run;
+pub use size_warning::SizeWarning;
 pub use slot::PeerTerms;
 pub use wires::{NotSent, Wires};
 pub use writing::write_frames;

@@ -1,17 +1,18 @@
 //! All links of one party.
 
+use crate::beginning::Beginning;
 use crate::pace::Pace;
 use crate::slot::{PeerTerms, Slot};
 use bytes::Bytes;
 use handshake::{Endpoint, Nonce};
 use ids::{Config, Fault, PartyId};
-use std::alloc::Global;
 use std::net::{Shutdown, TcpListener, TcpStream};
 use std::os::fd::OwnedFd;
 use std::random::RandomSource;
 use std::sync::Wait;
 use std::sync::atomic::Ordering::SeqCst;
 use std::sync::atomic::{AtomicBool, AtomicU64};
+use std::time::Clock;
 use wire_frames::longest_frame;
 
 /// Why a frame isn't on its way.
@@ -34,7 +35,10 @@ pub struct Wires {
     /// A second handle of the listener's socket, if there is one. To shut that down wakes who waits for a connection.
     door: Option<TcpStream>,
     is_over: AtomicBool,
+    began: Beginning,
     other_sizes: AtomicU64,
+    /// The number of the last one, and one more; 0 for none.
+    last_at_other_sizes: AtomicU64,
 }
 
 /// A nonce that nobody can tell before.
@@ -59,17 +63,17 @@ impl Wires {
     /// The links of a party to these peers, none of which is there yet. Where it is dialled it has a listener.
     ///
     /// `Memory` where memory was refused, `AcceptFailed` where the listener can't be had twice.
-    pub fn new(
-        alloc: Global,
+    pub fn new<R: AllocGlobal + Clock>(
+        rt: &R,
         endpoint: Endpoint,
         pace: Pace,
         peers: &[PeerTerms],
         listener: Option<&TcpListener>,
     ) -> Result<Wires, Fault> {
         let door = door_of(listener)?;
-        let mut slots = Vec::new(alloc);
+        let mut slots = Vec::new(rt.alloc());
         for terms in peers {
-            slots.push(Slot::new(alloc, *terms))?;
+            slots.push(Slot::new(rt.alloc(), *terms))?;
         }
         Ok(Wires {
             endpoint,
@@ -77,7 +81,9 @@ impl Wires {
             slots,
             door,
             is_over: AtomicBool::new(false),
+            began: Beginning::new(rt),
             other_sizes: AtomicU64::new(0),
+            last_at_other_sizes: AtomicU64::new(0),
         })
     }
 
@@ -111,13 +117,26 @@ impl Wires {
         self.slot(to).is_some_and(|slot| slot.is_linked(rt))
     }
 
-    /// How many asked at other sizes that hold the key of a peer.
+    /// Now, in milliseconds since the links were made.
+    pub(crate) fn millis<R: Clock>(&self, rt: &R) -> u64 {
+        self.began.millis(rt)
+    }
+
+    /// How often a peer asked at other sizes that showed who it is ([`SizeWarning`](crate::SizeWarning) tells of it).
     pub fn other_sizes(&self) -> u64 {
         self.other_sizes.load(SeqCst)
     }
 
-    /// One more did.
-    pub(crate) fn count_other_sizes(&self) {
+    /// Which one did last.
+    pub(crate) fn last_at_other_sizes(&self) -> Option<PartyId> {
+        let number = self.last_at_other_sizes.load(SeqCst).checked_sub(1)?;
+        u16::try_from(number).ok().map(|number| PartyId(number))
+    }
+
+    /// This one did.
+    pub(crate) fn note_other_sizes(&self, peer: PartyId) {
+        self.last_at_other_sizes
+            .store(u64::from(peer.0) + 1, SeqCst);
         self.other_sizes.fetch_add(1, SeqCst);
     }
 

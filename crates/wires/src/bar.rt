@@ -1,0 +1,77 @@
+//! How long a peer stays out that told a length that no frame has.
+
+ghost use Rattle.std.specs.Prelude.{◌≡◌, ◌-◌, nat_lt};
+ghost use Rattle.wires.specs.Barring.{bar_after, bar_of, lengthened, times_by};
+
+use crate::end::End;
+use tuning::{BAR_MILLIS, MOST_DOUBLINGS};
+
+/// Until when a peer stays out. Moments are milliseconds.
+#[derive(Clone, Copy, Debug, PartialEq, Eq)]
+pub(crate) struct Bar {
+    until: u64,
+    /// How often it told such a length before, each time soon after it was let in again.
+    times: u32,
+}
+
+/// How many milliseconds a peer stays out that told such a length so often before.
+fn bar_of(times: u32) -> u64
+    ensures { result ≡ bar_of times }
+{
+    BAR_MILLIS << times.min(MOST_DOUBLINGS)
+}
+
+impl Bar {
+    /// It told none.
+    pub(crate) fn none() -> Bar
+        ensures { result ≡ record { until = 0; times = 0 } }
+    {
+        Bar { until: 0, times: 0 }
+    }
+
+    /// Whether the peer stays out at a moment.
+    pub(crate) fn is_on(self, now: u64) -> bool
+        ensures { result ≡ nat_lt now self.until }
+    {
+        now < self.until
+    }
+
+    /// For how many milliseconds it still does.
+    pub(crate) fn left(self, now: u64) -> u64
+        ensures { result ≡ self.until - now }
+    {
+        self.until.saturating_sub(now)
+    }
+
+    /// How often it counts as having told one by a moment.
+    fn times_by(self, now: u64) -> u32
+        ensures { result ≡ times_by self now }
+    {
+        if now.saturating_sub(self.until) >= bar_of(MOST_DOUBLINGS) {
+            0
+        } else {
+            self.times
+        }
+    }
+
+    /// It told one more.
+    fn lengthened(self, now: u64) -> Bar
+        ensures { result ≡ lengthened self now }
+    {
+        let times = self.times_by(now);
+        Bar {
+            until: now.saturating_add(bar_of(times)),
+            times: times.saturating_add(1),
+        }
+    }
+
+    /// Its connection ended so.
+    pub(crate) fn after(self, end: End, now: u64) -> Bar
+        ensures { result ≡ bar_after self end now }
+    {
+        match end {
+            End::BadLength => self.lengthened(now),
+            End::Closed | End::Failed | End::Memory => self,
+        }
+    }
+}
