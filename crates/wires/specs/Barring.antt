@@ -1,5 +1,5 @@
 -- How long a peer stays out that told a length that no frame has. Moments are milliseconds.
-use Rattle.std.specs.Prelude.{◌≡◌, ℕ, ◌+◌, ◌*◌, ◌-◌, ◌^◌, ◌&&◌, min, not, Bool, nat_eq, nat_le, nat_lt, if◌then◌else◌}
+use Rattle.std.specs.Prelude.{ℕ, ◌+◌, ◌*◌, ◌-◌, ◌^◌, min, nat_le, if◌then◌else◌}
 use Rattle.tuning.specs.declared.clients.TheConstants.{BAR_MILLIS, MOST_DOUBLINGS}
 use Rattle.wires.specs.declared.bar.Bar.{Bar}
 use Rattle.wires.specs.declared.end.End.{End}

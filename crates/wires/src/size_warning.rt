@@ -1,6 +1,6 @@
 //! Peers that ask at other sizes.
 
-ghost use Rattle.std.specs.Prelude.{◌≡◌, ◌+◌, ◌-◌, ◌^◌, ◌&&◌, min, nat_le, nat_lt};
+ghost use Rattle.std.specs.Prelude.{◌≡◌, ◌+◌, ◌^◌, ◌&&◌, min, nat_le, nat_lt};
 
 use crate::wires::Wires;
 use log::{Log, warn};
