@@ -24,7 +24,7 @@ pub use client_end::ClientEnd;
 pub use inbox::Inbox;
 pub use laws::link_is_served;
 pub use links::{Ends, Links};
-pub use parcel::Parcel;
+pub use parcel::{Base, Parcel};
 pub use questioned::Questioned;
 pub use waiting::WaitingRoom;
 pub use worker::{Outgoing, Worker};

@@ -8,11 +8,11 @@ ghost use Rattle.fabric.specs.Parcels.{is_request};
 
 use crate::client_end::{ClientEnd, ClientStart, NotTold, client_link};
 use crate::inbox::{Inbox, Row};
-use crate::parcel::Parcel;
+use crate::parcel::{Base, Parcel};
 use bytes::Bytes;
 use fair_queue::Refusal;
 use frames_view::version;
-use ids::{ClientId, Config, Digest, Fault, Height, Kind, MOST_REPLICAS, ReplicaId, View};
+use ids::{ClientId, Config, Fault, Height, Kind, MOST_REPLICAS, ReplicaId, View};
 use signed_frames::To;
 use std::alloc::{AllocError, Global};
 use std::marker::Model;
@@ -479,12 +479,11 @@ impl Links {
         self.hand_in(rt, to, Parcel::Timeout(view))
     }
 
-    /// Gives a replica leave to begin anew as leader, from its lock, of this digest; or from the block that its last
-    /// proposal certifies.
-    pub fn lead<R: Wait>(&self, rt: &R, to: ReplicaId, lock: Option<Digest>) -> Result<(), Fault>
+    /// Gives a replica leave to begin anew as leader.
+    pub fn lead<R: Wait>(&self, rt: &R, to: ReplicaId, base: Base) -> Result<(), Fault>
         ensures { OnErr result ((result ≡ Err Fault.Memory) ⊎ (result ≡ Err Fault.NoSuchParty)) }
     {
-        self.hand_in(rt, to, Parcel::Lead(lock))
+        self.hand_in(rt, to, Parcel::Lead(base))
     }
 
     /// Gives a replica leave to prune its tree up to a height.

@@ -14,6 +14,14 @@ pub(crate) fn frame_size(frame: &Bytes) -> usize
     frame.len() + PARCEL_SIZE
 }
 
+/// From where a leader begins anew, and how many empty blocks are to stand on that before a request does.
+#[derive(Clone, Copy, Debug, PartialEq, Eq)]
+pub struct Base {
+    /// Its lock. None for the block that its last proposal certifies.
+    pub lock: Option<Digest>,
+    pub climb: u64,
+}
+
 /// What comes to a replica over its link, which its workers share.
 #[derive(Drop)]
 pub enum Parcel {
@@ -33,8 +41,8 @@ pub enum Parcel {
     Beat,
     /// This view has lasted too long.
     Timeout(View),
-    /// Leave to begin anew as leader, from the lock, of this digest, or from the block that its last proposal certifies.
-    Lead(Option<Digest>),
+    /// Leave to begin anew as leader.
+    Lead(Base),
     /// Leave to prune the tree up to this height.
     Prune(u64),
     /// The worker that takes it ends.

@@ -233,8 +233,9 @@ impl<'a, G: Gate, O: Outgoing + Questioned> Worker<'a, G, O> {
 
     /// Whether a frame is a vote that comes too late: for the block of the certificate that this replica's last
     /// proposal has. A step would write it down and change nothing else, and so it may get lost, as on any network.
-    /// Of each block's votes all but a quorum are such. In trouble a vote for a block below the newest is lost, too.
-    fn is_late(&self, bytes: &[u8]) -> bool {
+    /// Of each block's votes all but a quorum are such. In trouble a vote for a block below the newest is lost, too, and at
+    /// any time one of a replica that is passed over: it may be right for this one alone.
+    fn is_late<R: Wait>(&self, rt: &R, bytes: &[u8]) -> bool {
         if self.blocks.is_empty() {
             return false;
         }
@@ -243,6 +244,7 @@ impl<'a, G: Gate, O: Outgoing + Questioned> Worker<'a, G, O> {
                 let block = Digest(*vote.digest());
                 self.blocks.is_certified(&block)
                     || (self.out.in_trouble() && self.blocks.is_below(&block))
+                    || self.out.passes_over(rt, vote.vote().voter())
             }
             _ => false,
         }
@@ -259,7 +261,7 @@ impl<'a, G: Gate, O: Outgoing + Questioned> Worker<'a, G, O> {
     )
         ensures { HasGrown share.old share.new }
     {
-        if self.is_late(bytes.as_slice()) || !self.lets_in(rt, &bytes) {
+        if self.is_late(rt, bytes.as_slice()) || !self.lets_in(rt, &bytes) {
             return;
         }
         match self.bring(rt, steps, share, number, bytes.as_slice()) {

@@ -3,6 +3,7 @@
 ghost use Rattle.fabric.specs.Shares.{HasGrown};
 
 use crate::links::is_request;
+use crate::parcel::Base;
 use crate::questioned::Questioned;
 use crate::requests::{Again, Entry};
 use crate::worker::{OWN, Outgoing, Worker};
@@ -122,24 +123,55 @@ impl<'a, G: Gate, O: Outgoing + Questioned> Worker<'a, G, O> {
         }
     }
 
-    /// The replica is to begin anew as leader, from its lock, which has this digest, or from the block that its last
-    /// proposal certifies. It forgets by that what is pending.
+    /// The replica is to begin anew as leader, from its lock, or from the block that its last proposal certifies. It forgets
+    /// by that what is pending.
     pub(crate) fn lead<R: Wait + Clock, S: Steps>(
         &mut self,
         rt: &R,
         steps: &mut S,
         share: &mut Share,
-        lock: Option<Digest>,
+        base: Base,
     )
         ensures { HasGrown share.old share.new }
     {
-        let Some(block) = lock.or(self.blocks.certified()) else {
+        let Some(block) = base.lock.or(self.blocks.certified()) else {
             return;
         };
         let now = self.out.millis(rt);
-        let again = self.room.begin_trials(rt, lock.is_some(), now);
+        let again = self.room.begin_trials(rt, base.lock.is_some(), now);
         self.step(rt, steps, share, Input::Lead(block));
+        self.climb(rt, steps, share, base.climb);
         self.take_again(rt, steps, share, again);
+    }
+
+    /// Proposes so many empty blocks, one on the other. The same ones stand on a block whoever leads from it, and however
+    /// often: so others' heights aren't filled by them.
+    fn climb<R: Wait + Clock, S: Steps>(
+        &mut self,
+        rt: &R,
+        steps: &mut S,
+        share: &mut Share,
+        climb: u64,
+    )
+        ensures { HasGrown share.old share.new }
+    {
+        for _ in 0..climb {
+            self.step(rt, steps, share, Input::Beat);
+            self.take_own(rt, steps, share);
+        }
+    }
+
+    /// Takes what the replica sent to itself: a proposal, and the vote for it.
+    fn take_own<R: Wait + Clock, S: Steps>(&mut self, rt: &R, steps: &mut S, share: &mut Share)
+        ensures { HasGrown share.old share.new }
+    {
+        for _ in rt.forever() {
+            self.own.link_had_its_turn();
+            let Some(bytes) = self.own.take() else {
+                break;
+            };
+            self.take(rt, steps, share, OWN, bytes);
+        }
     }
 
     /// Brings requests that were kept, and asks others for some.

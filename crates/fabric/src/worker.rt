@@ -36,7 +36,7 @@ pub struct Worker<'a, G, O = Links> {
     /// What it proposed.
     pub(crate) blocks: OwnBlocks,
     /// What was sent to the replica itself, and isn't taken yet.
-    own: OwnFrames,
+    pub(crate) own: OwnFrames,
 }
 
 /// What takes the frames that a replica sends to others, and is told of some that it refuses.
@@ -52,6 +52,11 @@ pub trait Outgoing {
 
     /// Whether the replica leads its view.
     fn leads(&self) -> bool {
+        false
+    }
+
+    /// Whether a leader passes over a replica's votes: in another one's certificate they weren't right for it.
+    fn passes_over<R: Wait>(&self, _rt: &R, _voter: ReplicaId) -> bool {
         false
     }
 
@@ -294,7 +299,7 @@ impl<'a, G: Gate, O: Outgoing + Questioned> Worker<'a, G, O> {
                 Parcel::Passed { from, bytes } => self.hear(rt, steps, &mut share, from, bytes),
                 Parcel::Beat => self.step(rt, steps, &mut share, Input::Beat),
                 Parcel::Timeout(view) => self.time_out(rt, steps, &mut share, view),
-                Parcel::Lead(block) => self.lead(rt, steps, &mut share, block),
+                Parcel::Lead(base) => self.lead(rt, steps, &mut share, base),
                 Parcel::Prune(height) => {
                     self.step(rt, steps, &mut share, Input::Prune(Height(height)));
                 }

@@ -14,7 +14,7 @@ use Rattle.world_schedule.specs.Running.{IsRunOf}
 use Rattle.world_schedule.proofs.Runs.{next-run, whole-run}
 use Rattle.healer.specs.Courses.{Course, Origin, IsTheirs}
 
-nothing-behind : {A : Type 0} (xs : List A) → xs ++ [] ≡ xs
+pub nothing-behind : {A : Type 0} (xs : List A) → xs ++ [] ≡ xs
 nothing-behind [] = refl
 nothing-behind (x ∷ xs) = ap (λ l. x ∷ l) (nothing-behind xs)
 

@@ -1,7 +1,14 @@
 //! A run that is healed.
 
-ghost use Rattle.std.specs.Prelude.{◌≡◌, ◌++◌, IfOk};
+ghost use Rattle.std.specs.Prelude.{◌≡◌, ◌++◌, ◌∷◌, List, Option, IfOk, OnOk, length, map};
+ghost use Rattle.definitions.specs.Worlds as worlds;
+ghost use Rattle.definitions.specs.Worlds.{Happening, relay, offer, of_record};
+ghost use Rattle.recovery.specs.Correct.{amply};
+ghost use Rattle.recovery.specs.Healing.{comes_to, offered_to};
+ghost use Rattle.world_schedule.specs.Progress.{StandsAt};
 ghost use Rattle.world_schedule.specs.Running.{IsRunOf};
+ghost use Rattle.healer.specs.Courses.{Takes, Goes};
+ghost use Rattle.healer.specs.Supplied.{asks_in, lacked};
 
 use client_accept::Session;
 use ids::{ClientId, Config, Digest, Fault, Height, Kind, PartyId, ReplicaId};
@@ -39,20 +46,49 @@ impl<'a> Model for Healer<'a> {
 
 /// Whether a replica that lacks a block sends a question in this event. Who is to ask itself sends none, and for what
 /// is gathered or led from nobody is asked.
-fn asks(event: &Event) -> bool {
+fn asks(event: &Event) -> bool
+    ensures { result ≡ asks_in event.now }
+{
     match event {
-        Event::Relay { .. } | Event::Offer { .. } => true,
+        Event::Relay { .. } => true,
+        Event::Inject { .. } => true,
+        Event::Offer { .. } => true,
         Event::Ask { replica, to, .. } => *replica != *to,
-        _ => false,
+        Event::Submit { .. } => false,
+        Event::Timeout(_) => false,
+        Event::Beat(_) => false,
+        Event::Prune { .. } => false,
+        Event::Gather { .. } => false,
+        Event::Lead { .. } => false,
     }
 }
 
-/// Whether memory was refused to the party of the last event, behind so many frames. Where a block was lacking, the
-/// question for it shows that it wasn't.
-fn lacked_memory(running: &Running<'_>, event: &Event, before: usize) -> bool {
+/// What the last event was answered: a refusal, or none.
+fn last_answer(running: &Running<'_>) -> Option<Fault>
+    ensures { (hs : List Happening) (w : worlds.World) (a : Option Fault) (more : List (Option Fault))
+        → StandsAt running.now hs w → w.answers ≡ a ∷ more → result ≡ a }
+{
     match running.answers().last() {
-        Some(Some(Fault::Memory)) => true,
-        Some(Some(Fault::UnknownParent)) => asks(event) && running.frames().len() == before,
+        Some(answer) => *answer,
+        None => None,
+    }
+}
+
+/// How many frames were sent.
+fn count_frames(running: &Running<'_>) -> usize
+    ensures { (hs : List Happening) (w : worlds.World) → StandsAt running.now hs w → result ≡ length w.sent }
+{
+    running.frames().len()
+}
+
+/// Whether memory was refused to the party of an event that was answered so. Where a block was lacking, the question
+/// for it, if one was due, shows that it wasn't.
+fn lacked_memory(asks: bool, is_silent: bool, answer: Option<Fault>) -> bool
+    ensures { result ≡ lacked asks is_silent answer }
+{
+    match answer {
+        Some(Fault::Memory) => true,
+        Some(Fault::UnknownParent) => asks && is_silent,
         _ => false,
     }
 }
@@ -77,12 +113,16 @@ impl<'a> Healer<'a> {
 
     /// Lets an event happen. `Memory` where it was refused to the party, too.
     pub(crate) fn take(&mut self, event: Event) -> Result<(), Fault>
-        ensures { self.new.origin ≡ self.old.origin }
+        ensures origin { self.new.origin ≡ self.old.origin }
+        ensures taken { OnOk result (Takes self.old event self.new) }
     {
-        let before = self.running.frames().len();
+        // For the proof: each party has its own keys.
+        self.running.world().holds();
+        let before = count_frames(&self.running);
         self.events.reserve(1)?;
         self.running.happen(&event)?;
-        let lacked = lacked_memory(&self.running, &event, before);
+        let is_silent = count_frames(&self.running) == before;
+        let lacked = lacked_memory(asks(&event), is_silent, last_answer(&self.running));
         self.events.push_reserved(event);
         if lacked { Err(Fault::Memory) } else { Ok(()) }
     }
@@ -171,7 +211,8 @@ pub(crate) fn bring_to_each(
     replicas: &[ReplicaId],
     frames: &[u64],
 ) -> Result<(), Fault>
-    ensures { healer.new.origin ≡ healer.old.origin }
+    ensures origin { healer.new.origin ≡ healer.old.origin }
+    ensures came { OnOk result (Goes healer.old (λ w. amply (comes_to replicas.now frames.now)) healer.new) }
 {
     for replica in replicas {
         bring_all(healer, PartyId::from(*replica), frames)?;
@@ -181,7 +222,8 @@ pub(crate) fn bring_to_each(
 
 /// Each of these frames comes to a party.
 fn bring_all(healer: &mut Healer<'_>, to: PartyId, frames: &[u64]) -> Result<(), Fault>
-    ensures { healer.new.origin ≡ healer.old.origin }
+    ensures origin { healer.new.origin ≡ healer.old.origin }
+    ensures came { OnOk result (Goes healer.old (λ w. amply (map (λ k. relay k to) frames.now)) healer.new) }
 {
     for frame in frames {
         healer.take(Event::Relay { frame: *frame, to })?;
@@ -195,7 +237,8 @@ pub(crate) fn offer_to_each(
     replicas: &[ReplicaId],
     frames: &[u64],
 ) -> Result<(), Fault>
-    ensures { healer.new.origin ≡ healer.old.origin }
+    ensures origin { healer.new.origin ≡ healer.old.origin }
+    ensures came { OnOk result (Goes healer.old (λ w. amply (offered_to replicas.now frames.now)) healer.new) }
 {
     for replica in replicas {
         offer_all(healer, *replica, frames)?;
@@ -205,7 +248,9 @@ pub(crate) fn offer_to_each(
 
 /// Each of these frames is offered to a replica.
 fn offer_all(healer: &mut Healer<'_>, to: ReplicaId, frames: &[u64]) -> Result<(), Fault>
-    ensures { healer.new.origin ≡ healer.old.origin }
+    ensures origin { healer.new.origin ≡ healer.old.origin }
+    ensures came { OnOk result
+        (Goes healer.old (λ w. amply (map (λ k. offer to (of_record k)) frames.now)) healer.new) }
 {
     for frame in frames {
         let source = Source::Record(*frame);

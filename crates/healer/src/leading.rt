@@ -1,6 +1,8 @@
 //! What the leader leads from.
 
-ghost use Rattle.std.specs.Prelude.{◌≡◌};
+ghost use Rattle.std.specs.Prelude.{◌≡◌, OnOk};
+ghost use Rattle.recovery.specs.Healing.{lead_with};
+ghost use Rattle.healer.specs.Courses.{Goes};
 
 use crate::healer::{Healer, bring_to_each, lock_height};
 use frames_view::genesis_digest;
@@ -90,7 +92,8 @@ pub(crate) fn lead_with(
     leader: ReplicaId,
     block: Digest,
 ) -> Result<(), Fault>
-    ensures { healer.new.origin ≡ healer.old.origin }
+    ensures origin { healer.new.origin ≡ healer.old.origin }
+    ensures leads { OnOk result (Goes healer.old (lead_with request leader block) healer.new) }
 {
     healer.take(Event::Lead {
         replica: leader,

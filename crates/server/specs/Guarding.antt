@@ -1,6 +1,7 @@
 -- When a proposal is out, and which beats are in vain.
-use Rattle.std.specs.Prelude.{◌≡◌, ◌&&◌, Bool, true, false, not, List, [], ◌∷◌, Result, Ok, Err}
+use Rattle.std.specs.Prelude.{◌≡◌, ◌==◌, ◌&&◌, Bool, true, false, not, List, [], ◌∷◌, Result, Ok, Err}
 use Rattle.std.specs.Prelude.{if◌then◌else◌, Option, Some, None}
+use Rattle.ids.specs.Sizes.{leader}
 use Rattle.ids.specs.declared.fault.Fault.{Fault}
 use Rattle.ids.specs.declared.fault.Fault.TheVariants.{BadHeight, NotMine, WrongJustify}
 use Rattle.admission.specs.declared.input.Input.{Input}
@@ -14,7 +15,6 @@ use Rattle.turns.specs.declared.prompt.Prompt.{Prompt}
 use Rattle.turns.specs.declared.prompt.Prompt.TheVariants as prompt
 use Rattle.locked_replica.specs.Kept.{KeptState}
 use Rattle.replica.specs.Careful.{is_careless as is_careless_core}
-use Rattle.replica.specs.Wanting.{wants_beat}
 
 -- a block, a vote, a view or a lead: by it a proposal may have come to stand, or another block may be the one to propose on
 abbrev pub moves : Input → Bool
@@ -53,9 +53,13 @@ out_after before input answer =
     else if is_beat input && sends answer then true
     else before
 
--- a beat of a replica that doesn't lead its view, or has no request
+-- it leads its view
+abbrev pub leads : KeptState → Bool
+leads kept = leader kept.keys.sizes (view kept.keys.sizes kept.replica.chronicle) == kept.keys.party
+
+-- a beat of a replica that doesn't lead its view
 abbrev pub is_vain : KeptState → Input → Bool
-is_vain kept input = is_beat input && not (wants_beat (record { keys = kept.keys; replica = kept.replica }))
+is_vain kept input = is_beat input && not (leads kept)
 
 -- a proposal for which a vote would be careless
 abbrev pub is_careless : KeptState → Ruled → Bool

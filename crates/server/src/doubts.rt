@@ -11,7 +11,7 @@ use crate::stations::Station;
 use authenticators::VerifyingKeyring;
 use certificates::check_cert;
 use frames_view::{BlockView, CertificateView, Frame, NewViewView, ProposalView, VoteView, read};
-use ids::{Kind, MOST_REPLICAS, PartyId, ReplicaId};
+use ids::{Kind, MOST_REPLICAS, PartyId, ReplicaId, View};
 use log::{Log, warn};
 use std::fmt;
 use std::sync::atomic::AtomicBool;
@@ -167,6 +167,20 @@ fn doubt_in(keyring: &VerifyingKeyring, bytes: &[u8]) -> Option<Doubt> {
         Frame::Proposal(view) => doubt_of_proposal(keyring, &view),
         Frame::NewView(view) => doubt_of_new_view(keyring, &view),
         Frame::Block(view) => doubt_of_block(keyring, &view),
+        _ => None,
+    }
+}
+
+/// Whose votes aren't right for a replica in a proposal of this view, where its own tag is right and its certificate isn't.
+pub(crate) fn wrong_in(
+    keyring: &VerifyingKeyring,
+    view: View,
+    bytes: &[u8],
+) -> Option<[bool; MOST_REPLICAS]> {
+    match read(&keyring.config(), bytes) {
+        Ok(Frame::Proposal(proposal)) if proposal.view().0 == view.0 => {
+            doubt_of_proposal(keyring, &proposal).map(|doubt| doubt.wrong)
+        }
         _ => None,
     }
 }

@@ -85,11 +85,20 @@ impl<'a> Guarded<'a> {
         }
     }
 
-    /// Whether it is leave to propose for a replica that doesn't lead its view, or has no request.
+    /// Whether it leads its view.
+    fn leads(&self) -> bool
+        ensures { result ≡ guarding.leads self.now.kept }
+    {
+        let replica = self.replica();
+        replica.config().leader(replica.view()) == replica.number()
+    }
+
+    /// Whether it is leave to propose for a replica that doesn't lead its view. Who leads may propose an empty block, too,
+    /// to climb above what others voted for.
     fn is_vain(&self, input: &Input<'_>) -> bool
         ensures { result ≡ guarding.is_vain self.now.kept input.now }
     {
-        matches!(input, Input::Beat) && !self.replica().wants_beat()
+        matches!(input, Input::Beat) && !self.leads()
     }
 
     /// Whether it is a proposal for which a vote would be careless.
@@ -192,7 +201,7 @@ impl<'a> Guarded<'a> {
 }
 
 /// Each step is one of the replica, or is refused: with `Full` where it holds as many blocks as it may; with `NotMine`
-/// for a beat of a replica that doesn't lead or has no request; with `BadHeight` for a block that climbs too far; with
+/// for a beat of a replica that doesn't lead; with `BadHeight` for a block that climbs too far; with
 /// `WrongJustify` for a proposal of which a block justifies one below the lock; and for a block that the doorkeeper
 /// doesn't let in with `Crowded`, or with `Memory` where it couldn't be counted. A block that is refused is lost, as on any
 /// network.

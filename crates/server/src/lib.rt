@@ -12,6 +12,7 @@ mod laggards;
 mod link;
 mod lying;
 mod outside;
+mod passed_over;
 mod roll;
 mod running;
 mod stations;

@@ -74,6 +74,10 @@ impl Outgoing for Outside<'_, '_> {
         self.links.config().leader(view) == self.station.number()
     }
 
+    fn passes_over<R: Wait>(&self, rt: &R, voter: ReplicaId) -> bool {
+        self.station.passed_over().has(rt, voter)
+    }
+
     fn millis<R: Clock>(&self, rt: &R) -> u64 {
         self.now(rt)
     }
@@ -81,6 +85,8 @@ impl Outgoing for Outside<'_, '_> {
     fn doubted<R: Wait>(&self, rt: &R, keyring: &VerifyingKeyring, bytes: &[u8]) {
         self.station.trouble().doubt();
         self.station.doubts().look(rt, keyring, bytes);
+        let view = self.station.trouble().view();
+        self.station.passed_over().look(rt, keyring, view, bytes);
     }
 }
 

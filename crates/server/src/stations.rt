@@ -13,6 +13,7 @@ use crate::guarded::Guarded;
 use crate::laggards::Reach;
 use crate::lying::{LiarStart, LyingOut};
 use crate::outside::Outside;
+use crate::passed_over::PassedOver;
 use crate::terms::{Liars, Terms};
 use crate::trouble::TroubleSign;
 use crate::watching::Progress;
@@ -21,8 +22,8 @@ use asking::Questions;
 use authenticators::ReplicaKeyring;
 use clock::{Due, Keep, LeadFrom, Pulse, Watched, keep_time};
 use doorkeeper::Doorkeeper;
-use fabric::{Inbox, Links, WaitingRoom, Worker};
-use ids::{Digest, Fault, Height, MOST_REPLICAS, ReplicaId, View};
+use fabric::{Base, Inbox, Links, WaitingRoom, Worker};
+use ids::{Fault, Height, MOST_REPLICAS, ReplicaId, View};
 use key_file::PairKeys;
 use liars::Lying;
 use locked_replica::Kept;
@@ -35,6 +36,7 @@ use std::sync::atomic::Ordering::SeqCst;
 use std::sync::atomic::{AtomicBool, AtomicU64};
 use std::sync::{Arc, Mutex, MutexGuard, Wait};
 use std::time::Clock;
+use tuning::{LEAD_CLIMB, LEAD_PART, MOST_CLIMB};
 use turns::Open;
 
 /// A replica under its lock, behind its doorkeeper, and where what is for it comes out.
@@ -50,6 +52,7 @@ pub(crate) struct Station<'a> {
     ended: AtomicU64,
     doubts: Doubts,
     trouble: TroubleSign,
+    passed_over: PassedOver,
     inbox: Arc<Inbox>,
     room: WaitingRoom,
 }
@@ -93,6 +96,11 @@ impl<'a> Station<'a> {
         &self.doubts
     }
 
+    /// Whose votes it passes over.
+    pub(crate) fn passed_over(&self) -> &PassedOver {
+        &self.passed_over
+    }
+
     /// Whether there is trouble around the replica.
     pub(crate) fn trouble(&self) -> &TroubleSign {
         &self.trouble
@@ -125,11 +133,24 @@ struct Timed<'s, 'a> {
 }
 
 impl<'s, 'a> Timed<'s, 'a> {
-    /// The block from which the replica is to begin anew. None for the one that its last proposal certifies.
-    fn base<R: Wait>(&self, rt: &R, from: LeadFrom) -> Option<Digest> {
-        match from {
-            LeadFrom::Certified => None,
-            LeadFrom::Lock => Some(self.station.locked.lock(rt).replica().lock()),
+    /// From where the replica is to begin anew. It climbs above all that it voted for, and further, since others may have voted
+    /// for more, as far as blocks of its view may.
+    fn base<R: Wait>(&self, rt: &R, from: LeadFrom) -> Base {
+        let guarded = self.station.locked.lock(rt);
+        let replica = guarded.replica();
+        let above = replica.voted().0.saturating_sub(replica.lock_height().0);
+        let most = replica
+            .view()
+            .0
+            .saturating_add(1)
+            .saturating_mul(MOST_CLIMB);
+        let (lock, further) = match from {
+            LeadFrom::Certified => (None, LEAD_CLIMB / LEAD_PART),
+            LeadFrom::Lock => (Some(replica.lock()), LEAD_CLIMB),
+        };
+        Base {
+            lock,
+            climb: above.saturating_add(further).min(most),
         }
     }
 }
@@ -158,6 +179,7 @@ impl<'s, 'a> Watched for Timed<'s, 'a> {
 
     fn tell_trouble(&self, is_on: bool, view: View) {
         self.station.trouble.show(is_on, view);
+        self.station.passed_over.ask();
     }
 
     fn hand_in<R: Wait>(&self, rt: &R, due: Due) {
@@ -170,8 +192,11 @@ impl<'s, 'a> Watched for Timed<'s, 'a> {
         }
         if let Some(from) = due.lead {
             self.station.trouble.raise();
-            let block = self.base(rt, from);
-            let _ = self.links.lead(rt, self.station.number, block);
+            if from == LeadFrom::Lock {
+                self.station.passed_over.forget(rt);
+            }
+            let base = self.base(rt, from);
+            let _ = self.links.lead(rt, self.station.number, base);
         }
     }
 
@@ -349,6 +374,7 @@ fn build_station<'a>(
         ended: AtomicU64::new(0),
         doubts: Doubts::none(),
         trouble: TroubleSign::none(),
+        passed_over: PassedOver::none(),
         inbox,
         room: WaitingRoom::new(alloc, keys.config(), terms.workers.count()),
     };

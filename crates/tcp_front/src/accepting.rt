@@ -101,8 +101,8 @@ fn accept_all<'s, E, R: Threads + Wait + Clock + Sync + AllocGlobal + Log, S: Se
 ///
 /// Each takes a free seat for its time, and is served in a thread of its own. Where none is free it
 /// is told `SERVER_ERROR too many connections` and closed. `AcceptFailed` comes only where
-/// accepting failed, and `Stopped` only where the seats were closed (`Closer`). It returns when all
-/// connections have ended, and no lost seat tries any more.
+/// accepting failed, and `Stopped` only where the seats were closed (`Closer`). Both close the seats, so that no
+/// connection goes on for long. It returns when all connections have ended, and no lost seat tries any more.
 pub fn front<R: Threads + Wait + Clock + Sync + AllocGlobal + Log, S: Seat + Send + Drop>(
     rt: &R,
     listener: &TcpListener,
@@ -120,7 +120,11 @@ pub fn front<R: Threads + Wait + Clock + Sync + AllocGlobal + Log, S: Seat + Sen
             ensures failed { OnErr result ((result ≡ Err AcceptFailed) ⊎ (result ≡ Err Stopped)) }
         {
             let served = accept_all(rt, scope, listener, seats, most);
-            seats.end();
+            if served.is_ok() {
+                seats.end();
+            } else {
+                seats.close();
+            }
             served
         },
     )

@@ -42,3 +42,7 @@ pub const MOST_OF_SENDER: usize = 4;
 /// view. More: a faulty leader has correct ones propose longer before anything is decided. Below four: nothing is decided
 /// in view 0.
 pub const MOST_CLIMB: u64 = 64;
+
+/// Heights by which a leader that begins anew from its lock climbs above all that it voted for, before it proposes a
+/// request. More: more empty blocks. Fewer: below what others voted for nothing finds votes.
+pub const LEAD_CLIMB: u64 = 24;

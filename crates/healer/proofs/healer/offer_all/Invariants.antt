@@ -1,5 +1,12 @@
-use Rattle.std.proofs.Common.{◌≡◌}
+use Rattle.std.proofs.Common.{◌≡◌, map, take}
+use Rattle.definitions.specs.Worlds.{Event.relay, Event.offer, Source.of_record}
+use Rattle.recovery.specs.Correct.{amply}
+use Rattle.recovery.specs.Healing.{comes_to, offered_to}
+use Rattle.healer.specs.Courses.{Goes}
 use Rattle.healer.proofs.healer.offer_all.Given as goal
 
 abbrev pub invariant-loop-frame : goal.invariant-loop-frame
-invariant-loop-frame l = l.healer.origin ≡ l.initial.healer.origin
+invariant-loop-frame l = record {
+  origin : l.healer.origin ≡ l.initial.healer.origin;
+  came : Goes l.initial.healer (λ w. amply (map (λ k. offer l.to (of_record k)) (take l.frame-index l.frames))) l.healer;
+}
