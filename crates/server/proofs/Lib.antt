@@ -1,2 +1,5 @@
 mod Filling
 mod Lending
+mod Lying
+mod Numbers
+mod Sharing

@@ -1,11 +1,17 @@
-use Rattle.std.proofs.Common.{rules, arith, sym, subst, ◌≡◌, map, Vec, vec_len}
+use Rattle.std.proofs.Common.{rules, arith, refl, sym, subst, ap, ◌≡◌, ◌∙◌, ◌∷◌, ◌++◌, [], map, Vec, vec_len}
+use Rattle.std.proofs.lemmas.List.{map_push}
 use Rattle.std.proofs.lemmas.List.Elements.{All-push}
 use Rattle.std.specs.Global.{Global}
 use Rattle.std.specs.List.{range_with_len}
 use Rattle.marks.specs.Eyes.{first_eye}
 use Rattle.marks.proofs.Owners.{Owners, owners_from}
+use Rattle.server.specs.declared.stations.Station.{Station}
 use Rattle.server.specs.declared.worker.WorkerStart.{WorkerStart}
+use Rattle.server.specs.Keeping.{keep}
+use Rattle.server.specs.Stations.{numbers_of}
 use Rattle.server.specs.Workers.{worker_count}
+use Rattle.server.proofs.Lying.{lie_more}
+use Rattle.server.proofs.Numbers.{numbers_more}
 use Rattle.server.proofs.stations.stations.Goals as goal
 
 pub loop-number-init : goal.loop-number-init
@@ -20,11 +26,16 @@ loop-number-init c =
           (subst (Owners z 0) (sym all) (owners_from z z.words 0 (omega arith))),
       search rules,
       search rules,
+      search rules,
+      ap (range_with_len 0) (sym first),
+      search rules,
+      search rules,
     )
 
 pub loop-number-preserved : goal.loop-number-preserved
 loop-number-preserved c =
-    let P : Vec WorkerStart Global → Type 0 = λ workers. vec_len workers ≡ worker_count c.args.terms.now.workers in (
+    let P : Vec WorkerStart Global → Type 0 = λ workers. vec_len workers ≡ worker_count c.args.terms.now.workers in
+    let K : Station → Type 0 = λ station. station.keep ≡ keep c.args.terms.now c.args.keys.now.sizes in (
       search rules,
       search rules,
       search rules,
@@ -39,4 +50,9 @@ loop-number-preserved c =
         c.reserve-in-loop-number.ensures.len,
         c.loop-number.invariant.4,
       ),
+      search rules,
+      ?numbers,
+      rw c.push_reserved.ensures.items
+          (All-push K _ _ (rw c.reserve.ensures.items c.loop-number.invariant.7) c.in_ok-station.ensures.keep),
+      ?lies,
     )
