@@ -3,6 +3,7 @@
 ghost use Rattle.std.specs.Prelude.{◌≡◌, ◌<◌, ◌⊎◌, map, option_map, All, Err, IfOk, OnErr, vec_len};
 ghost use Rattle.ids.specs.declared.fault.Fault.TheVariants.{Memory, NoSuchParty};
 ghost use Rattle.liars.specs.Lying.{new_lying};
+ghost use Rattle.server.specs.Stations.{fresh};
 ghost use Rattle.server.specs.Workers.{AllLieBy, lie_by, lie_of, liar_at, worker_count};
 ghost use Rattle.std.specs.List.{range_with_len};
 ghost use Rattle.ids.specs.Sizes.{replicas};
@@ -286,6 +287,7 @@ fn new_kept<'a>(
 ) -> Result<Kept<'a>, Fault>
     requires words { marks.now.words ≡ replicas keyring.now.sizes }
     requires eye { eye ≡ first_eye marks.now keyring.now.party }
+    ensures made { IfOk result (λ kept. kept ≡ fresh keyring.now eye) }
     ensures memory { OnErr result (result ≡ Err Memory) }
 {
     let (config, number) = (keyring.config(), keyring.replica());
