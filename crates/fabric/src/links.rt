@@ -9,6 +9,7 @@ ghost use Rattle.fabric.specs.Parcels.{is_request};
 use crate::client_end::{ClientEnd, ClientStart, NotTold, client_link};
 use crate::inbox::{Inbox, Row};
 use crate::parcel::{Base, Parcel};
+use crate::replica_set::ReplicaSet;
 use bytes::Bytes;
 use fair_queue::Refusal;
 use frames_view::version;
@@ -438,6 +439,20 @@ impl Links {
             }
         }
         all
+    }
+
+    /// Tells a replica that votes of these in a certificate of it weren't right for this one.
+    pub fn doubt<R: Wait>(
+        &self,
+        rt: &R,
+        from: ReplicaId,
+        to: ReplicaId,
+        voters: ReplicaSet,
+    ) -> Result<(), Fault>
+        ensures { OnErr result ((result ≡ Err Fault.Memory) ⊎ (result ≡ Err Fault.NoSuchParty)) }
+    {
+        let parcel = Parcel::Doubted { from, voters };
+        self.hand_in_row(rt, self.replica_row(from), to, parcel)
     }
 
     /// Hands in a frame of a replica at a client's link.

@@ -3,6 +3,7 @@
 ghost use Rattle.std.specs.Prelude.{◌≡◌, ◌+◌, length};
 ghost use Rattle.tuning.specs.declared.links.TheConstants.{PARCEL_SIZE};
 
+use crate::replica_set::ReplicaSet;
 use bytes::Bytes;
 use ids::{Digest, ReplicaId, View};
 use tuning::PARCEL_SIZE;
@@ -36,6 +37,11 @@ pub enum Parcel {
     Passed {
         from: ReplicaId,
         bytes: Bytes,
+    },
+    /// What another replica found of votes in a certificate of this one: these weren't right for it.
+    Doubted {
+        from: ReplicaId,
+        voters: ReplicaSet,
     },
     /// Leave to make a proposal.
     Beat,

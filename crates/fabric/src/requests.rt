@@ -1,7 +1,8 @@
 //! The requests that a replica keeps.
 
+use crate::replica_set::ReplicaSet;
 use crate::suspects::Suspects;
-use crate::vouchers::Vouchers;
+use crate::vouchers::are_enough;
 use bytes::Bytes;
 use ids::{ClientId, Config, ReplicaId, Seq};
 use std::alloc::Global;
@@ -12,7 +13,8 @@ use std::collections::BTreeMap;
 struct Request {
     seq: Seq,
     bytes: Bytes,
-    vouchers: Vouchers,
+    /// The other replicas that have it with the same bytes.
+    vouchers: ReplicaSet,
 }
 
 impl Request {
@@ -79,7 +81,7 @@ impl Requests {
     /// Whether enough others vouch for a client's last request.
     fn is_vouched(&self, client: ClientId) -> bool {
         match self.kept.get(&client) {
-            Some(request) => request.vouchers.are_enough(self.config),
+            Some(request) => are_enough(&request.vouchers, self.config),
             None => false,
         }
     }
@@ -90,7 +92,7 @@ impl Requests {
             return;
         }
         if let Ok(bytes) = bytes.clone() {
-            let vouchers = Vouchers::none();
+            let vouchers = ReplicaSet::none();
             let request = Request {
                 seq,
                 bytes,
@@ -155,11 +157,11 @@ impl Requests {
         let Some(request) = self.kept.get_mut(&client) else {
             return false;
         };
-        if !request.came_as(bytes) || request.vouchers.are_enough(self.config) {
+        if !request.came_as(bytes) || are_enough(&request.vouchers, self.config) {
             return false;
         }
         request.vouchers.add(from);
-        if !request.vouchers.are_enough(self.config) {
+        if !are_enough(&request.vouchers, self.config) {
             return false;
         }
         self.suspects.vouch(client);
@@ -171,7 +173,7 @@ impl Requests {
         let suspects = &self.suspects;
         let mut next: Option<ClientId> = None;
         for (client, request) in &self.kept {
-            if !request.vouchers.are_enough(self.config) {
+            if !are_enough(&request.vouchers, self.config) {
                 continue;
             }
             let is_sooner = match next {
@@ -216,7 +218,7 @@ impl Requests {
     /// Nobody is suspected any more. Who isn't cleared by then, as not enough others vouched for its last request, is doubted.
     pub(crate) fn end(&mut self, now: u64) {
         for (client, request) in &self.kept {
-            if !request.vouchers.are_enough(self.config) && self.suspects.is_suspected(*client) {
+            if !are_enough(&request.vouchers, self.config) && self.suspects.is_suspected(*client) {
                 self.suspects.doubt(*client, now);
             }
         }

@@ -8,7 +8,7 @@ use crate::waiting::{Carried, Waiting};
 use crate::worker::{Outgoing, Worker};
 use bytes::Bytes;
 use frames_view::{Frame, read};
-use ids::{Digest, Fault, ReplicaId};
+use ids::{Digest, Fault, ReplicaId, View};
 use signed_frames::Out;
 use std::alloc::{AllocError, Global};
 use std::sync::Wait;
@@ -72,6 +72,14 @@ impl<'a, G: Gate, O: Outgoing + Questioned> Worker<'a, G, O> {
         Some(self.finish(rt, answer))
     }
 
+    /// The view of a frame, if it is a proposal.
+    fn proposed_in(&self, bytes: &[u8]) -> Option<View> {
+        match read(&self.keyring.config(), bytes) {
+            Ok(Frame::Proposal(proposal)) => Some(proposal.view()),
+            _ => None,
+        }
+    }
+
     /// Offers a frame that was refused with `BadTag`: its own tag may be right, and only its certificate not good for this
     /// replica. What has no grounds waits for them.
     fn offer<R: Wait + Clock, S: Steps>(
@@ -88,7 +96,9 @@ impl<'a, G: Gate, O: Outgoing + Questioned> Worker<'a, G, O> {
         let Some(brought) = self.offer_once(rt, steps, share, bytes) else {
             return Err(Fault::BadTag);
         };
-        self.out.doubted(rt, self.keyring.verifying(), bytes);
+        if self.proposed_in(bytes) == Some(self.out.view()) {
+            self.out.doubted(rt, self.keyring.verifying(), bytes);
+        }
         if brought != Err(Fault::BadTag) {
             return brought;
         }
@@ -301,7 +311,15 @@ impl<'a, G: Gate, O: Outgoing + Questioned> Worker<'a, G, O> {
         }
     }
 
-    /// A proposal that lacked grounds is brought once more, where something came since that may give it some.
+    /// Whether a frame is a proposal of an earlier view than the replica's: it finds no vote any more.
+    fn is_past(&self, bytes: &[u8]) -> bool {
+        match self.proposed_in(bytes) {
+            Some(view) => view.0 < self.out.view().0,
+            None => false,
+        }
+    }
+
+    /// A proposal that lacked grounds is offered once more, where something came since that may give it some.
     pub(crate) fn try_again<R: Wait + Clock, S: Steps>(
         &mut self,
         rt: &R,
@@ -310,8 +328,22 @@ impl<'a, G: Gate, O: Outgoing + Questioned> Worker<'a, G, O> {
     )
         ensures { HasGrown share.old share.new }
     {
-        if let Some(frame) = self.room.next_unfounded(rt) {
-            self.take(rt, steps, share, frame.number, frame.bytes);
+        let tried_at = self.room.news();
+        let Some(Unfounded { number, bytes, .. }) = self.room.next_unfounded(rt) else {
+            return;
+        };
+        match self.offer_once(rt, steps, share, bytes.as_slice()) {
+            Some(Ok(())) => self.taken(rt, steps, share, &bytes),
+            Some(Err(Fault::UnknownParent)) => self.take_later(rt, steps, share, number, bytes),
+            Some(Err(Fault::BadTag)) if !self.is_past(bytes.as_slice()) => {
+                let frame = Unfounded {
+                    number,
+                    bytes,
+                    tried_at,
+                };
+                self.room.wait_for_grounds(rt, frame);
+            }
+            _ => {}
         }
     }
 }

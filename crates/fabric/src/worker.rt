@@ -9,6 +9,7 @@ use crate::own_blocks::OwnBlocks;
 use crate::parcel::Parcel;
 use crate::questioned::Questioned;
 use crate::queue::Question;
+use crate::replica_set::ReplicaSet;
 use crate::waiting::WaitingRoom;
 use admission::Input;
 use asking::Ask;
@@ -55,9 +56,17 @@ pub trait Outgoing {
         false
     }
 
-    /// Whether a leader passes over a replica's votes: in another one's certificate they weren't right for it.
+    /// Whether a leader passes over a replica's votes: in a certificate they weren't right for it, or for others.
     fn passes_over<R: Wait>(&self, _rt: &R, _voter: ReplicaId) -> bool {
         false
+    }
+
+    /// Is told that votes of these weren't right for another replica in a certificate of this one.
+    fn hear_doubt<R: Wait>(&self, _rt: &R, _from: ReplicaId, _voters: ReplicaSet) {}
+
+    /// The view that the replica is in, as it was seen last.
+    fn view(&self) -> View {
+        View(0)
     }
 
     /// The milliseconds since some moment.
@@ -68,7 +77,8 @@ pub trait Outgoing {
     /// Passes a client's request on to another replica, or to all others. They don't take it as the client's frame.
     fn pass_on<R: Wait>(&self, _rt: &R, _from: ReplicaId, _to: Option<ReplicaId>, _frame: Bytes) {}
 
-    /// Is told of a frame whose certificate isn't good for this keyring's replica, where the frame's own tag is right.
+    /// Is told of a proposal of the replica's view whose own tag is right for this keyring's replica, and whose certificate
+    /// isn't good for it.
     fn doubted<R: Wait>(&self, _rt: &R, _keyring: &VerifyingKeyring, _bytes: &[u8]) {}
 }
 
@@ -297,6 +307,7 @@ impl<'a, G: Gate, O: Outgoing + Questioned> Worker<'a, G, O> {
                     self.take(rt, steps, &mut share, number, bytes);
                 }
                 Parcel::Passed { from, bytes } => self.hear(rt, steps, &mut share, from, bytes),
+                Parcel::Doubted { from, voters } => self.out.hear_doubt(rt, from, voters),
                 Parcel::Beat => self.step(rt, steps, &mut share, Input::Beat),
                 Parcel::Timeout(view) => self.time_out(rt, steps, &mut share, view),
                 Parcel::Lead(base) => self.lead(rt, steps, &mut share, base),

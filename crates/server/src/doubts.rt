@@ -1,17 +1,18 @@
 //! Frames that a replica doubts: their sender made them, and their certificate isn't right for it.
 
-ghost use Rattle.std.specs.Prelude.{◌≡◌, IfNone, IfSome, false, true};
+ghost use Rattle.std.specs.Prelude.{◌≡◌, IfSome, false, true};
 ghost use Rattle.definitions.specs.Admission.{own_tag_verifies};
 ghost use Rattle.definitions.specs.Checks.{identity_of, is_good, vote_verifies};
 ghost use Rattle.definitions.specs.FrameLimits.{IsCertificate, IsFrame, IsVote};
-ghost use Rattle.frames_view.specs.Views.{block_of, certificate_of, new_view_of, proposal_of, vote_of};
+ghost use Rattle.frames_view.specs.Views.{certificate_of, proposal_of, vote_of};
 ghost use Rattle.server.specs.Doubting.{IsDoubt};
 
 use crate::stations::Station;
 use authenticators::VerifyingKeyring;
 use certificates::check_cert;
-use frames_view::{BlockView, CertificateView, Frame, NewViewView, ProposalView, VoteView, read};
-use ids::{Kind, MOST_REPLICAS, PartyId, ReplicaId, View};
+use fabric::ReplicaSet;
+use frames_view::{CertificateView, Frame, ProposalView, VoteView, read};
+use ids::{Kind, MOST_REPLICAS, PartyId, ReplicaId};
 use log::{Log, warn};
 use std::fmt;
 use std::sync::atomic::AtomicBool;
@@ -24,15 +25,15 @@ use tuning::WARNING_PAUSE_SECONDS;
 pub(crate) struct Doubt {
     /// Who sent it.
     pub(crate) sender: ReplicaId,
-    /// Whose votes aren't right, by number of replica.
-    pub(crate) wrong: [bool; MOST_REPLICAS],
+    /// Whose votes aren't right.
+    pub(crate) wrong: ReplicaSet,
 }
 
 /// Numbers of replicas in a row.
 impl fmt::Display for Doubt {
     fn fmt<W: fmt::Write>(&self, f: &mut fmt::Formatter<W>) -> fmt::Result {
-        for (number, is_wrong) in self.wrong.iter().enumerate() {
-            if *is_wrong {
+        for number in 0..MOST_REPLICAS as u8 {
+            if self.wrong.has(ReplicaId(number)) {
                 write!(f, " {number}")?;
             }
         }
@@ -41,35 +42,13 @@ impl fmt::Display for Doubt {
 }
 
 /// Whether a proposal's own tag is right.
-fn proposal_is_tagged(keyring: &VerifyingKeyring, view: &ProposalView<'_>) -> bool
+fn is_tagged(keyring: &VerifyingKeyring, view: &ProposalView<'_>) -> bool
     requires { IsFrame keyring.now.sizes (proposal_of view.now) }
     ensures { result ≡ own_tag_verifies (identity_of keyring.now) (proposal_of view.now) }
 {
     let sender = keyring.config().leader(view.view()).into();
     let tag = view.tag(keyring.replica());
     keyring.verify(Kind::Proposal, sender, view.content(), tag)
-}
-
-/// Whether an announcement's own tag is right.
-fn new_view_is_tagged(keyring: &VerifyingKeyring, view: &NewViewView<'_>) -> bool
-    requires { IsFrame keyring.now.sizes (new_view_of view.now) }
-    ensures { result ≡ own_tag_verifies (identity_of keyring.now) (new_view_of view.now) }
-{
-    let tag = view.tag(keyring.replica());
-    keyring.verify(Kind::NewView, view.sender().into(), view.content(), tag)
-}
-
-/// Whether a block's own tag is right.
-fn block_is_tagged(keyring: &VerifyingKeyring, view: &BlockView<'_>) -> bool
-    requires { IsFrame keyring.now.sizes (block_of view.now) }
-    ensures { result ≡ own_tag_verifies (identity_of keyring.now) (block_of view.now) }
-{
-    keyring.verify(
-        Kind::Block,
-        view.sender().into(),
-        view.content(),
-        view.tag(),
-    )
 }
 
 /// Whether a vote for the block of a digest is right.
@@ -81,106 +60,38 @@ fn vote_is_right(keyring: &VerifyingKeyring, digest: &[u8; 32], vote: &VoteView<
     keyring.verify(Kind::Vote, PartyId::from(vote.voter()), digest, tag)
 }
 
-/// Notes whether a voter's vote is wrong.
-fn note(wrong: &mut [bool; MOST_REPLICAS], voter: ReplicaId, is_wrong: bool) {
-    if let Some(place) = wrong.get_mut(usize::from(voter.0)) {
-        *place = is_wrong;
-    }
-}
-
 /// Whose votes in a certificate aren't right for a replica.
-fn wrong_votes(
-    keyring: &VerifyingKeyring,
-    certificate: &CertificateView<'_>,
-) -> [bool; MOST_REPLICAS]
+fn wrong_votes(keyring: &VerifyingKeyring, certificate: &CertificateView<'_>) -> ReplicaSet
     requires { IsCertificate keyring.now.sizes (certificate_of certificate.now) }
 {
-    let mut wrong = [false; MOST_REPLICAS];
+    let mut wrong = ReplicaSet::none();
     for vote in certificate.votes() {
-        let is_right = vote_is_right(keyring, certificate.digest(), &vote);
-        note(&mut wrong, vote.voter(), !is_right);
+        if !vote_is_right(keyring, certificate.digest(), &vote) {
+            wrong.add(vote.voter());
+        }
     }
     wrong
 }
 
-/// What is found of a certificate in a frame of this sender, where it isn't right.
-fn doubt_of(
-    keyring: &VerifyingKeyring,
-    sender: ReplicaId,
-    certificate: &CertificateView<'_>,
-) -> Option<Doubt>
-    requires { IsCertificate keyring.now.sizes (certificate_of certificate.now) }
-    ensures some { IfSome result (λ doubt. (doubt.sender ≡ sender)
-        × (is_good (identity_of keyring.now) (certificate_of certificate.now) ≡ false)) }
-    ensures none { IfNone result
-        (is_good (identity_of keyring.now) (certificate_of certificate.now) ≡ true) }
-{
-    match check_cert(keyring, &keyring.config(), certificate) {
-        Ok(_) => None,
-        Err(_) => {
-            let wrong = wrong_votes(keyring, certificate);
-            Some(Doubt { sender, wrong })
-        }
-    }
-}
-
-/// What is found of a proposal.
-fn doubt_of_proposal(keyring: &VerifyingKeyring, view: &ProposalView<'_>) -> Option<Doubt>
+/// What is found of a proposal, where its own tag is right and its certificate isn't.
+fn doubt_of(keyring: &VerifyingKeyring, view: &ProposalView<'_>) -> Option<Doubt>
     requires { IsFrame keyring.now.sizes (proposal_of view.now) }
     ensures { IfSome result (λ doubt. IsDoubt keyring.now (proposal_of view.now) doubt) }
 {
-    if !proposal_is_tagged(keyring, view) {
+    let certificate = view.certificate();
+    if !is_tagged(keyring, view) || check_cert(keyring, &keyring.config(), &certificate).is_ok() {
         return None;
     }
-    let leader = keyring.config().leader(view.view());
-    doubt_of(keyring, leader, &view.certificate())
+    Some(Doubt {
+        sender: keyring.config().leader(view.view()),
+        wrong: wrong_votes(keyring, &certificate),
+    })
 }
 
-/// What is found of an announcement.
-fn doubt_of_new_view(keyring: &VerifyingKeyring, view: &NewViewView<'_>) -> Option<Doubt>
-    requires { IsFrame keyring.now.sizes (new_view_of view.now) }
-    ensures { IfSome result (λ doubt. IsDoubt keyring.now (new_view_of view.now) doubt) }
-{
-    if !new_view_is_tagged(keyring, view) {
-        return None;
-    }
-    doubt_of(keyring, view.sender(), &view.certificate())
-}
-
-/// What is found of a block.
-fn doubt_of_block(keyring: &VerifyingKeyring, view: &BlockView<'_>) -> Option<Doubt>
-    requires { IsFrame keyring.now.sizes (block_of view.now) }
-    ensures { IfSome result (λ doubt. IsDoubt keyring.now (block_of view.now) doubt) }
-{
-    if !block_is_tagged(keyring, view) {
-        return None;
-    }
-    doubt_of(keyring, view.sender(), &view.certificate())
-}
-
-/// What is found of a frame, where its own tag is right for a replica and its certificate isn't.
-fn doubt_in(keyring: &VerifyingKeyring, bytes: &[u8]) -> Option<Doubt> {
-    let Ok(frame) = read(&keyring.config(), bytes) else {
-        return None;
-    };
-    match frame {
-        Frame::Proposal(view) => doubt_of_proposal(keyring, &view),
-        Frame::NewView(view) => doubt_of_new_view(keyring, &view),
-        Frame::Block(view) => doubt_of_block(keyring, &view),
-        _ => None,
-    }
-}
-
-/// Whose votes aren't right for a replica in a proposal of this view, where its own tag is right and its certificate isn't.
-pub(crate) fn wrong_in(
-    keyring: &VerifyingKeyring,
-    view: View,
-    bytes: &[u8],
-) -> Option<[bool; MOST_REPLICAS]> {
+/// What is found of a frame, if it is a proposal whose own tag is right for a replica, and whose certificate isn't.
+pub(crate) fn doubt_in(keyring: &VerifyingKeyring, bytes: &[u8]) -> Option<Doubt> {
     match read(&keyring.config(), bytes) {
-        Ok(Frame::Proposal(proposal)) if proposal.view().0 == view.0 => {
-            doubt_of_proposal(keyring, &proposal).map(|doubt| doubt.wrong)
-        }
+        Ok(Frame::Proposal(view)) => doubt_of(keyring, &view),
         _ => None,
     }
 }

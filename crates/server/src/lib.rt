@@ -13,6 +13,7 @@ mod link;
 mod lying;
 mod outside;
 mod passed_over;
+mod passing;
 mod roll;
 mod running;
 mod stations;

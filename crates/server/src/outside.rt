@@ -6,8 +6,8 @@ use crate::stations::Station;
 use asking::{Ask, BlockCopy};
 use authenticators::VerifyingKeyring;
 use bytes::Bytes;
-use fabric::{Links, Outgoing, Questioned};
-use ids::{Digest, ReplicaId};
+use fabric::{Links, Outgoing, Questioned, ReplicaSet};
+use ids::{Digest, ReplicaId, View};
 use signed_frames::Sending;
 use std::alloc::{AllocError, Global};
 use std::sync::Wait;
@@ -85,8 +85,18 @@ impl Outgoing for Outside<'_, '_> {
     fn doubted<R: Wait>(&self, rt: &R, keyring: &VerifyingKeyring, bytes: &[u8]) {
         self.station.trouble().doubt();
         self.station.doubts().look(rt, keyring, bytes);
-        let view = self.station.trouble().view();
-        self.station.passed_over().look(rt, keyring, view, bytes);
+        if let Some(doubt) = self.station.passed_over().look(rt, keyring, bytes) {
+            let own = self.station.number();
+            let _lost = self.links.doubt(rt, own, doubt.sender, doubt.wrong);
+        }
+    }
+
+    fn hear_doubt<R: Wait>(&self, rt: &R, from: ReplicaId, voters: ReplicaSet) {
+        self.station.passed_over().hear(rt, from, &voters);
+    }
+
+    fn view(&self) -> View {
+        self.station.trouble().view()
     }
 }
 

@@ -1,62 +1,31 @@
 //! Whose votes a leader passes over.
 
-use crate::doubts::wrong_in;
+use crate::doubts::{Doubt, doubt_in};
+use crate::passing::Passing;
 use authenticators::VerifyingKeyring;
-use ids::{MOST_REPLICAS, ReplicaId, View};
+use fabric::ReplicaSet;
+use ids::{Config, ReplicaId};
 use std::sync::atomic::AtomicBool;
 use std::sync::atomic::Ordering::SeqCst;
 use std::sync::{Mutex, Wait};
 
-/// The replicas whose votes weren't right for this one in certificates of its leaders, `true` at each one's number. A
-/// certificate with such a vote may be good for its leader alone, so a leader does without it as long as it finds others'.
-///
-/// A leader that lies may have made them up: so they are never more than may be faulty, and all are forgotten where the
-/// replica leads from its lock.
+/// The replicas whose votes a replica passes over where it leads, under their lock.
 #[derive(Drop)]
 pub(crate) struct PassedOver {
+    config: Config,
     is_asked: AtomicBool,
     are_any: AtomicBool,
-    voters: Mutex<[bool; MOST_REPLICAS]>,
-}
-
-/// How many there are.
-fn count(voters: &[bool; MOST_REPLICAS]) -> usize {
-    voters.iter().filter(|is_one| **is_one).count()
-}
-
-/// Those of both.
-fn union(some: &[bool; MOST_REPLICAS], others: &[bool; MOST_REPLICAS]) -> [bool; MOST_REPLICAS] {
-    let mut all = *some;
-    for (is_one, is_other) in all.iter_mut().zip(others.iter()) {
-        *is_one = *is_one || *is_other;
-    }
-    all
-}
-
-/// Who is passed over where these were, and now these were found: all, or where that would be more than so many, the latter,
-/// or where these are more themselves, those before.
-fn after(
-    before: [bool; MOST_REPLICAS],
-    found: [bool; MOST_REPLICAS],
-    most: usize,
-) -> [bool; MOST_REPLICAS] {
-    let all = union(&before, &found);
-    if count(&all) <= most {
-        all
-    } else if count(&found) <= most {
-        found
-    } else {
-        before
-    }
+    passing: Mutex<Passing>,
 }
 
 impl PassedOver {
     /// Nobody is.
-    pub(crate) fn none() -> PassedOver {
+    pub(crate) fn none(config: Config) -> PassedOver {
         PassedOver {
+            config,
             is_asked: AtomicBool::new(false),
             are_any: AtomicBool::new(false),
-            voters: Mutex::new([false; MOST_REPLICAS]),
+            passing: Mutex::new(Passing::none(config)),
         }
     }
 
@@ -65,37 +34,36 @@ impl PassedOver {
         self.is_asked.store(true, SeqCst);
     }
 
-    /// Looks at a refused frame, where one is asked for. Only a proposal of the replica's view tells.
+    /// Looks at a refused proposal of the replica's view, where one is asked for: whose votes in it aren't right for the replica.
     pub(crate) fn look<R: Wait>(
         &self,
         rt: &R,
         keyring: &VerifyingKeyring,
-        view: View,
         bytes: &[u8],
-    ) {
+    ) -> Option<Doubt> {
         if !self.is_asked.swap(false, SeqCst) {
-            return;
+            return None;
         }
-        if let Some(found) = wrong_in(keyring, view, bytes) {
-            let most = usize::from(keyring.config().faults());
-            let mut voters = self.voters.lock(rt);
-            *voters = after(*voters, found, most);
-            self.are_any.store(true, SeqCst);
-        }
+        let doubt = doubt_in(keyring, bytes)?;
+        self.passing.lock(rt).find(doubt.wrong);
+        self.are_any.store(true, SeqCst);
+        Some(doubt)
+    }
+
+    /// Another replica told whose votes in a certificate of this one weren't right for it.
+    pub(crate) fn hear<R: Wait>(&self, rt: &R, from: ReplicaId, voters: &ReplicaSet) {
+        self.passing.lock(rt).hear(from, voters);
+        self.are_any.store(true, SeqCst);
     }
 
     /// Whether a replica is.
     pub(crate) fn has<R: Wait>(&self, rt: &R, voter: ReplicaId) -> bool {
-        if !self.are_any.load(SeqCst) {
-            return false;
-        }
-        let voters = self.voters.lock(rt);
-        voters.get(usize::from(voter.0)).copied().unwrap_or(false)
+        self.are_any.load(SeqCst) && self.passing.lock(rt).has(voter)
     }
 
     /// Nobody is any more.
     pub(crate) fn forget<R: Wait>(&self, rt: &R) {
-        *self.voters.lock(rt) = [false; MOST_REPLICAS];
+        *self.passing.lock(rt) = Passing::none(self.config);
         self.are_any.store(false, SeqCst);
     }
 }

@@ -374,7 +374,7 @@ fn build_station<'a>(
         ended: AtomicU64::new(0),
         doubts: Doubts::none(),
         trouble: TroubleSign::none(),
-        passed_over: PassedOver::none(),
+        passed_over: PassedOver::none(keys.config()),
         inbox,
         room: WaitingRoom::new(alloc, keys.config(), terms.workers.count()),
     };
