@@ -1,7 +1,7 @@
 -- A leader brings a request to be executed, and its client hears of it.
 use Rattle.ids.specs.declared.fault.Fault.{Fault}
 use Rattle.ids.specs.declared.fault.Fault.TheVariants as fault
-use Rattle.std.proofs.Common.{ℕ, zero, suc, ◌≡◌, ◌==◌, Bool, true, false, cond, List, [], ◌∷◌, ◌++◌, map, length, find, reverse}
+use Rattle.std.proofs.Common.{ℕ, zero, suc, ◌≡◌, ◌==◌, List, [], ◌∷◌, ◌++◌, map, length, find, reverse}
 use Rattle.std.proofs.Common.{sym, ap, subst, ◌∙◌, refl, None, Result, OnOk}
 use Rattle.std.proofs.lemmas.Bool.{cond_both, eqb-true}
 use Rattle.definitions.specs.Branches.{Branch, branch_eq, just2, highest}
@@ -11,11 +11,11 @@ use Rattle.definitions.specs.Chronicles.{Admitted, Chronicle, taken_blocks, lock
 use Rattle.definitions.specs.Digests.{digest_of}
 use Rattle.definitions.specs.Events.{Effect, effect, acts, stepped, happens, nothing, party_of}
 use Rattle.definitions.specs.Replicas.{MemorySupply.ample, Replica, Reaction, Standing, Standing.running, Standing.stopped}
-use Rattle.definitions.specs.Replicas.{Standing.cut_short, Reaction.fails, on_ruling, on_step, step, stopped_at}
+use Rattle.definitions.specs.Replicas.{Standing.cut_short, Reaction.fails, on_ruling, on_step, step}
 use Rattle.definitions.specs.Rulings.{Input.timeout_in, ruling, conflicts}
 use Rattle.definitions.specs.Runs.{after}
-use Rattle.definitions.specs.Worlds.{World, Event, Event.timeout, Happening, self_of, put}
-use Rattle.recovery.specs.Correct.{amply, chronicle_of, lock_of, view_of, correct_replicas}
+use Rattle.definitions.specs.Worlds.{World, Event.timeout, Happening, self_of}
+use Rattle.recovery.specs.Correct.{amply, chronicle_of, lock_of, correct_replicas}
 use Rattle.recovery.specs.Healing.{Phase, in_turn, highest_locked, over_lock, justified_by, lowest_first, timeouts}
 use Rattle.recovery.specs.Healing.{waits_until, come_to, view_to_come, make_first, fetch_all, lead_with, rounds, to_climb}
 use Rattle.recovery.specs.Healing.{agree_on, ask_again, heal}
@@ -27,7 +27,7 @@ use Rattle.healer.proofs.Asking.{fetches-branch}
 use Rattle.healer.proofs.Locks.{leader-is-replica}
 use Rattle.healer.proofs.Members.{still-correct, still-replica}
 use Rattle.healer.proofs.Phases.{after-append, joined}
-use Rattle.healer.proofs.Turns.{turns-one, turn-first, turn-last, where-as, on-ok-too}
+use Rattle.healer.proofs.Turns.{turns-one, turn-first, turn-last, on-ok-too}
 
 -- ---- timeouts take no block
 

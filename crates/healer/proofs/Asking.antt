@@ -10,7 +10,7 @@ use Rattle.definitions.specs.Bytes.{Bytes}
 use Rattle.definitions.specs.Digests.{digest_of}
 use Rattle.definitions.specs.Frames.{Frame}
 use Rattle.definitions.specs.Runs.{after}
-use Rattle.definitions.specs.Worlds.{World, Event, Event.ask, Event.gather, Source, Source.of_record, Happening}
+use Rattle.definitions.specs.Worlds.{World, Event.ask, Event.gather, Source, Source.of_record, Happening}
 use Rattle.recovery.specs.Correct.{amply, correct_replicas}
 use Rattle.recovery.specs.Healing.{Phase, in_turn, sent_since, delivered_since, is_question, is_copy, ask_one, ask_each}
 use Rattle.recovery.specs.Healing.{fetch_block, lacking, fetch_for_all, fetch_all}
@@ -47,9 +47,11 @@ asks-one d u to before rs a b c r told t h = on-ok-too _ _ r by h
         (λ w v. amply (delivered_since (length w.sent) is_question v))
         (where-too a b (AreCorrect rs) p (goes-one a b (Ask u to d) (ask u to d) t (λ reads. refl))) m
         (λ hs w s x s'.
-        let v : World = after w (p w) in
-        (still-correct rs w (p w) x, ap (λ (n : ℕ). amply (delivered_since n (is_of kind.Fetch) v)) (told hs w s)
-        ∙ ap (λ (q : Frame → Bool). amply (delivered_since (length w.sent) q v)) questions))
+        let v : World = after w (p w) in (
+          still-correct rs w (p w) x,
+          ap (λ (n : ℕ). amply (delivered_since n (is_of kind.Fetch) v)) (told hs w s)
+              ∙ ap (λ (q : Frame → Bool). amply (delivered_since (length w.sent) q v)) questions,
+        ))
 
 each-asked : (d : Bytes) (u : ℕ) (rs : List ℕ) (w : World) → in_turn (map (ask_one d u) rs) w ≡ ask_each d u rs w
 unfolding ask_each in_turn
@@ -120,9 +122,11 @@ fetches-block d u before rs ks event a b c r told g told' is h = on-ok-too _ _ r
         (where-as a b (AreCorrect rs) (ask_each d u rs) p (λ w x. ap (λ (ps : List ℕ). ask_each d u ps w) x) g)
         (where-too b c (AreCorrect rs) q (goes-one b c event (gather u (map of_record ks)) t is))
         (λ hs w s x s'.
-        let v : World = after w (p w) in
-        (still-correct rs w (p w) x, ap (λ (ns : List ℕ). amply (gather u (map of_record ns) ∷ []))
-        (since (is_of kind.Block) is_copy before ks w v copies (told hs w s) (told' (hs ++ p w) v s'))))
+        let v : World = after w (p w) in (
+          still-correct rs w (p w) x,
+          ap (λ (ns : List ℕ). amply (gather u (map of_record ns) ∷ []))
+              (since (is_of kind.Block) is_copy before ks w v copies (told hs w s) (told' (hs ++ p w) v s')),
+        ))
 
 -- ---- for all that lack it
 

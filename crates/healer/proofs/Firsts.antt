@@ -2,8 +2,8 @@
 use Rattle.ids.specs.declared.fault.Fault.{Fault}
 use Rattle.ids.specs.declared.kind.Kind.TheVariants as kind
 use Rattle.std.specs.Prelude.{slice_index_or, max}
-use Rattle.std.proofs.Common.{ℕ, suc, ◌+◌, ◌-◌, ◌<◌, ◌≤◌, ◌≡◌, ◌==◌, Bool, true, false, cond, List, [], ◌∷◌, ◌++◌, length, take}
-use Rattle.std.proofs.Common.{sym, ap, subst, ◌∙◌, refl, arith, eq-eqb, Result, OnOk}
+use Rattle.std.proofs.Common.{ℕ, ◌+◌, ◌-◌, ◌<◌, ◌≤◌, ◌≡◌, ◌==◌, List, [], ◌∷◌, ◌++◌, length, take}
+use Rattle.std.proofs.Common.{sym, ap, ◌∙◌, refl, arith, eq-eqb, Result, OnOk}
 use Rattle.std.proofs.lemmas.Bool.{cond-true, cond-false, ne_eqb}
 use Rattle.std.proofs.lemmas.List.{take_more, take_all}
 use Rattle.definitions.specs.Bytes.{Bytes}
@@ -12,7 +12,7 @@ use Rattle.definitions.specs.Digests.{digest, digest_of}
 use Rattle.definitions.specs.Frames.{genesis_core}
 use Rattle.definitions.specs.Runs.{after}
 use Rattle.definitions.specs.States.{leaf}
-use Rattle.definitions.specs.Worlds.{World, Event.lead, Event.beat, Happening, self_of}
+use Rattle.definitions.specs.Worlds.{World, Event.lead, Event.beat, self_of}
 use Rattle.recovery.specs.Correct.{amply, chronicle_of, correct_replicas}
 use Rattle.recovery.specs.Healing.{Phase, in_turn, sent_since, is_proposal, comes_to, newcomers, over_lock, make_first}
 use Rattle.recovery.specs.Healing.{highest_voted, to_climb}
@@ -69,11 +69,13 @@ first-made l over before d rs news ks a b c e r zero is told t u told' new h = o
         (where-too a c P p led) (where-too c e (AreCorrect rs) (λ v. amply (comes_to news ks)) g)
         (λ hs w s x s'.
         let v : World = after w (p w) in
-        let own : AreCorrect rs v = still-correct rs w (p w) x.0 in
-        (own, ap (λ (ps : List ℕ). amply (comes_to ps ks)) (new (hs ++ p w) v s' own)
-        ∙ (ap (λ (ps : List ℕ). amply (comes_to (newcomers v ps) ks)) own
-        ∙ ap (λ (ns : List ℕ). amply (comes_to (newcomers v (correct_replicas v)) ns))
-        (since (is_of kind.Proposal) is_proposal before ks w v proposals (told hs w s) (told' (hs ++ p w) v s'))))))
+        let own : AreCorrect rs v = still-correct rs w (p w) x.0 in (
+          own,
+          ap (λ (ps : List ℕ). amply (comes_to ps ks)) (new (hs ++ p w) v s' own)
+              ∙ (ap (λ (ps : List ℕ). amply (comes_to (newcomers v ps) ks)) own
+              ∙ ap (λ (ns : List ℕ). amply (comes_to (newcomers v (correct_replicas v)) ns))
+              (since (is_of kind.Proposal) is_proposal before ks w v proposals (told hs w s) (told' (hs ++ p w) v s'))),
+        )))
 
 pub first-passed : (l over : ℕ) (rs : List ℕ) (a : Course) → 0 < over → GoesWhere a (MayMake rs l over) (make_first l) a
 unfolding make_first

@@ -1,13 +1,13 @@
 -- Who leads, by its lock.
 use Rattle.ids.specs.Sizes.{replicas}
-use Rattle.std.specs.Prelude.{slice_index_or, nat_lt, if◌then◌else◌}
-use Rattle.std.proofs.Common.{ℕ, zero, suc, ◌+◌, ◌-◌, ◌<◌, ◌≤◌, ◌≡◌, Bool, true, false, cond, List, [], ◌∷◌, length, drop}
+use Rattle.std.specs.Prelude.{slice_index_or, nat_lt}
+use Rattle.std.proofs.Common.{ℕ, suc, ◌+◌, ◌-◌, ◌<◌, ◌≤◌, ◌≡◌, Bool, true, false, cond, List, [], ◌∷◌, length, drop}
 use Rattle.std.proofs.Common.{slice_get, Some, None, drop-cons, sym, ap, subst, ◌∙◌, refl, arith, length-drop}
 use Rattle.std.proofs.lemmas.Bool.{cond-true, cond-false, lt-ltb, le-ltb}
 use Rattle.std.proofs.lemmas.List.{drop_all, get_or-drop}
 use Rattle.std.proofs.lemmas.Option.{slice_get_within, get_or_from_slice_get, slice_get-get_or}
 use Rattle.definitions.specs.Worlds.{World}
-use Rattle.recovery.specs.Correct.{lock_of, correct_replicas}
+use Rattle.recovery.specs.Correct.{lock_of}
 use Rattle.recovery.specs.Healing.{highest_locked}
 use Rattle.healer.specs.Courses.{HasReplica, AreCorrect}
 use Rattle.healer.specs.Locks.{higher_locked}

@@ -1,9 +1,8 @@
 -- The digests of a block and of all below it.
-use Rattle.std.specs.Prelude.{slice_index_or, nat_le, nat_lt, ◌||◌}
-use Rattle.std.proofs.Common.{ℕ, zero, suc, ◌+◌, ◌<◌, ◌≤◌, ◌≡◌, ◌==◌, Bool, true, false, cond, List, [], ◌∷◌, ◌++◌, map, length, take}
-use Rattle.std.proofs.Common.{length-append, sym, ap, subst, ◌∙◌, refl, arith, inl, inr, Option, Some, None, option_map}
-use Rattle.std.specs.Option.{option_and_then}
-use Rattle.std.proofs.lemmas.Bool.{cond-true, cond-false, cases_lt, lt-ltb, le-ltb, le-leb}
+use Rattle.std.specs.Prelude.{slice_index_or, nat_lt}
+use Rattle.std.proofs.Common.{ℕ, ◌+◌, ◌<◌, ◌≤◌, ◌≡◌, List, [], ◌∷◌, ◌++◌, map, length, take}
+use Rattle.std.proofs.Common.{length-append, sym, ap, ◌∙◌, refl, arith, inl, inr}
+use Rattle.std.proofs.lemmas.Bool.{cond-true, cond-false, cases_lt, lt-ltb, le-ltb}
 use Rattle.std.proofs.lemmas.List.{map-append, take_more, take_all, get_or_append_left, get_or_at}
 use Rattle.definitions.specs.Branches.{Branch}
 use Rattle.definitions.specs.Bytes.{Bytes}

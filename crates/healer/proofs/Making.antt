@@ -43,9 +43,12 @@ makes-block l before ks a b c r told t told' h = on-ok-too _ _ r (λ g hs w s. b
         (λ w v. amply (offered_to (l ∷ []) (sent_since (length w.sent) is_proposal v)))
         (where-too a b Any (λ v. amply (beat l ∷ [])) (goes-one a b (Beat l) (beat l) t (λ reads. refl)))
         (where-too b c Any (λ v. amply (offered_to (l ∷ []) ks)) g)
-        (λ hs w s x s'. (tt, ap (λ (n : List ℕ). amply (offered_to (l ∷ []) n))
-        (since (is_of kind.Proposal) is_proposal before ks w (after w (amply (beat l ∷ []))) proposals (told hs w s)
-        (told' (hs ++ amply (beat l ∷ [])) (after w (amply (beat l ∷ []))) s'))))
+        (λ hs w s x s'. (
+          tt,
+          ap (λ (n : List ℕ). amply (offered_to (l ∷ []) n))
+              (since (is_of kind.Proposal) is_proposal before ks w (after w (amply (beat l ∷ []))) proposals (told hs w s)
+              (told' (hs ++ amply (beat l ∷ [])) (after w (amply (beat l ∷ []))) s')),
+        ))
 
 blocks-more : (n l : ℕ) (w : World) → make_blocks n l w ++ make_block l (after w (make_blocks n l w))
     ≡ make_blocks (suc n) l w
@@ -97,11 +100,13 @@ bursts n l before rs us ks a b c r told g told' is h = on-ok-too _ _ r by h
         (where-too b c (AreCorrect rs) (λ v. amply (offered_to us ks)) k)
         (λ hs w s x s'.
         let v : World = after w (make_blocks n l w) in
-        let y : AreCorrect rs v = still-correct rs w (make_blocks n l w) x in
-        (y, ap (λ (ps : List ℕ). amply (offered_to ps ks)) (is ∙ ap (λ (ps : List ℕ). filter (λ z. not (z == l)) ps) y)
-        ∙ ap (λ (ns : List ℕ). amply (offered_to (others l v) ns))
-        (since (is_of kind.Proposal) is_proposal before ks w v proposals (told hs w s)
-        (told' (hs ++ make_blocks n l w) v s'))))
+        let y : AreCorrect rs v = still-correct rs w (make_blocks n l w) x in (
+          y,
+          ap (λ (ps : List ℕ). amply (offered_to ps ks)) (is ∙ ap (λ (ps : List ℕ). filter (λ z. not (z == l)) ps) y)
+              ∙ ap (λ (ns : List ℕ). amply (offered_to (others l v) ns))
+              (since (is_of kind.Proposal) is_proposal before ks w v proposals (told hs w s)
+              (told' (hs ++ make_blocks n l w) v s')),
+        ))
 
 pub round-goes : (n l before : ℕ) (rs ks : List ℕ) (a b c : Course) (r : Result (Unit {0}) Fault)
     → Told a (λ w. before ≡ length w.sent) → GoesWhere a (AreCorrect rs) (burst n l) b
@@ -117,10 +122,12 @@ round-goes n l before rs ks a b c r told g told' h = on-ok-too _ _ r by h
         (where-too b c (AreCorrect rs) (λ v. amply (comes_to rs ks)) k)
         (λ hs w s x s'.
         let v : World = after w (burst n l w) in
-        let y : AreCorrect rs v = still-correct rs w (burst n l w) x in
-        (y, ap (λ (ps : List ℕ). amply (comes_to ps ks)) y
-        ∙ ap (λ (ns : List ℕ). amply (comes_to (correct_replicas v) ns))
-        (since (is_of kind.Vote) is_vote before ks w v votes (told hs w s) (told' (hs ++ burst n l w) v s'))))
+        let y : AreCorrect rs v = still-correct rs w (burst n l w) x in (
+          y,
+          ap (λ (ps : List ℕ). amply (comes_to ps ks)) y
+              ∙ ap (λ (ns : List ℕ). amply (comes_to (correct_replicas v) ns))
+              (since (is_of kind.Vote) is_vote before ks w v votes (told hs w s) (told' (hs ++ burst n l w) v s')),
+        ))
 
 pub rounds-go : (n l : ℕ) (rs : List ℕ) (a b c d e : Course) (r : Result (Unit {0}) Fault)
     → GoesWhere a (AreCorrect rs) (round n l) b → GoesWhere b (AreCorrect rs) (round 1 l) c
@@ -161,6 +168,8 @@ asks-again k before rs a b c r told g h = on-ok-too _ _ r by h
         (λ w x. ap (λ (ps : List ℕ). amply (comes_to ps (k ∷ []))) x)
         (where-too a b (AreCorrect rs) (λ w. amply (comes_to rs (k ∷ []))) g)) m
         (λ hs w s x s'.
-        let v : World = after w (p w) in
-        (still-correct rs w (p w) x, ap (λ (n : ℕ). amply (delivered_since n (is_of kind.Reply) v)) (told hs w s)
-        ∙ ap (λ (t : Frame → Bool). amply (delivered_since (length w.sent) t v)) replies))
+        let v : World = after w (p w) in (
+          still-correct rs w (p w) x,
+          ap (λ (n : ℕ). amply (delivered_since n (is_of kind.Reply) v)) (told hs w s)
+              ∙ ap (λ (t : Frame → Bool). amply (delivered_since (length w.sent) t v)) replies,
+        ))

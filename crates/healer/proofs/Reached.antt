@@ -1,7 +1,7 @@
 -- The digest of a block on the branch of one that a replica has.
 use Rattle.std.specs.Prelude.{nat_le, ◌||◌}
 use Rattle.std.specs.Option.{option_and_then}
-use Rattle.std.proofs.Common.{ℕ, suc, ◌+◌, ◌<◌, ◌≤◌, ◌≡◌, ◌==◌, true, cond, length, sym, ap, ◌∙◌, arith, Option, Some, None, option_map}
+use Rattle.std.proofs.Common.{ℕ, ◌+◌, ◌≤◌, ◌≡◌, ◌==◌, length, ap, ◌∙◌, arith, Option, Some, None, option_map}
 use Rattle.std.proofs.lemmas.Bool.{cond-true, le-leb}
 use Rattle.definitions.specs.Branches.{Branch}
 use Rattle.definitions.specs.Bytes.{Bytes}

@@ -14,14 +14,13 @@ use Rattle.definitions.specs.Frames as frame
 use Rattle.definitions.specs.Runs.{after}
 use Rattle.definitions.specs.Sendings.{To, To.to_all, To.to_party}
 use Rattle.definitions.specs.Worlds.{World, Sent, Event, Event.relay, Happening}
-use Rattle.recovery.specs.Correct.{amply, correct_replicas}
+use Rattle.recovery.specs.Correct.{amply}
 use Rattle.recovery.specs.Healing.{Phase, numbers_of, is_proposal, is_vote, is_question, is_copy, is_reply, comes_to}
 use Rattle.recovery.specs.Healing.{receivers, delivered, delivered_since}
 use Rattle.signed_frames.specs.declared.out.To as code
 use Rattle.signed_frames.specs.Outs.{to_of}
 use Rattle.world_schedule.specs.declared.outcome.SentFrame.{SentFrame}
 use Rattle.world_schedule.specs.Outcomes.{Shown, shown_frame, shown_sent}
-use Rattle.world_schedule.specs.Progress.{StandsAt}
 use Rattle.healer.specs.Courses.{Course, Goes, GoesWhere, Told, AreCorrect}
 use Rattle.healer.specs.Records.{is_of, GoesTo}
 use Rattle.healer.proofs.Courses.{nothing-behind}

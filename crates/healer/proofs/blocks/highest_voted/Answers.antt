@@ -1,4 +1,4 @@
-use Rattle.std.proofs.Common.{sym, arith, ◌∙◌}
+use Rattle.std.proofs.Common.{arith, ◌∙◌}
 use Rattle.healer.proofs.Members.{item-is-replica}
 use Rattle.healer.proofs.Firsts.{voted-none, voted-next, voted-all}
 use Rattle.healer.proofs.blocks.highest_voted.Goals as goal

@@ -1,7 +1,6 @@
 use Rattle.ids.specs.declared.party.ReplicaId.{ReplicaId}
-use Rattle.std.proofs.Common.{Vec, Global, ℕ, arith, true, false, not, ◌==◌, length, ap, sym, ◌∙◌}
+use Rattle.std.proofs.Common.{Vec, Global, ℕ, arith, true, false, not, ◌==◌, ap, sym, ◌∙◌}
 use Rattle.healer.proofs.Courses.{nothing-behind}
-use Rattle.healer.proofs.Members.{item-is-replica}
 use Rattle.healer.proofs.Newcomers.{passing-more, passing-all}
 use Rattle.healer.proofs.blocks.others.Goals as goal
 use Rattle.healer.proofs.blocks.others.Goals.{then-is_other+in_ok-push, else-is_other}
@@ -10,7 +9,7 @@ pub loop-replica-init : goal.loop-replica-init
 loop-replica-init c = c.new-found.ensures.items
 
 pub loop-replica-preserved : goal.loop-replica-preserved
-loop-replica-preserved c = 
+loop-replica-preserved c =
     let is = sym c.is_other.ensures in
     elim c.if-is_other.branch [
       | then-is_other+in_ok-push v ↦
@@ -28,6 +27,6 @@ loop-replica-preserved c =
     ]
 
 pub returns : goal.returns
-returns c = 
+returns c =
     passing-all (λ (r : ℕ). not (r == c.args.leader)) c.args.correct.now c.loop-replica.replica-index
     c.loop-replica.found.items (omega (arith, c.loop-replica-test.false)) c.loop-replica.invariant

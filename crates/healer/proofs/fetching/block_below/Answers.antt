@@ -1,6 +1,6 @@
 use Rattle.std.specs.Option.{option_and_then}
-use Rattle.std.proofs.Common.{Some, ap, ◌∙◌, option_map}
-use Rattle.definitions.specs.Chronicles.{Chronicle, horizon}
+use Rattle.std.proofs.Common.{ap, ◌∙◌, option_map}
+use Rattle.definitions.specs.Chronicles.{horizon}
 use Rattle.definitions.specs.Digests.{digest_of}
 use Rattle.definitions.specs.Replicas.{Replica}
 use Rattle.definitions.specs.States.{find_block}

@@ -1,5 +1,5 @@
 use Rattle.ids.specs.declared.party.ReplicaId.{ReplicaId}
-use Rattle.std.proofs.Common.{Vec, Global, ℕ, List, filter, arith, true, false, not, ◌==◌, length, ap, sym, ◌∙◌}
+use Rattle.std.proofs.Common.{Vec, Global, ℕ, List, filter, arith, true, false, not, ap, sym, ◌∙◌}
 use Rattle.definitions.specs.States.{is_known}
 use Rattle.recovery.specs.Correct.{chronicle_of}
 use Rattle.healer.proofs.Courses.{nothing-behind}

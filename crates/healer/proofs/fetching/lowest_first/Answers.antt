@@ -1,4 +1,4 @@
-use Rattle.std.proofs.Common.{refl, arith, ◌+◌, ◌≤◌, ◌∙◌}
+use Rattle.std.proofs.Common.{refl, arith, ◌+◌, ◌∙◌}
 use Rattle.healer.proofs.Lowest.{digests-none, digests-next, digests-all}
 use Rattle.healer.proofs.Reached.{below-is}
 use Rattle.healer.proofs.fetching.lowest_first.Goals as goal

@@ -1,4 +1,4 @@
-use Rattle.std.proofs.Common.{arith, map, ap, sym, ◌∙◌}
+use Rattle.std.proofs.Common.{arith, ◌∙◌}
 use Rattle.healer.proofs.Asking.{sources-next, sources-all}
 use Rattle.healer.proofs.fetching.sources_of.Goals as goal
 

@@ -1,4 +1,4 @@
-use Rattle.std.proofs.Common.{refl, arith, ◌∙◌}
+use Rattle.std.proofs.Common.{refl, ◌∙◌}
 use Rattle.healer.specs.Courses.{AreCorrect}
 use Rattle.healer.specs.Records.{is_of}
 use Rattle.healer.proofs.Records.{delivers-first, delivers-next, delivers-all}

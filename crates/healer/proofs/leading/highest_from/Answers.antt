@@ -1,4 +1,3 @@
-use Rattle.std.proofs.Common.{arith}
 use Rattle.healer.proofs.Locks.{locked-begins, locked-further, locked-whole}
 use Rattle.healer.proofs.leading.highest_from.Goals as goal
 

@@ -1,5 +1,4 @@
-use Rattle.std.proofs.Common.{ℕ, Vec, Global, true, false, refl, sym, ap, ◌∙◌, ◌≡◌, length, map, arith}
-use Rattle.std.proofs.lemmas.List.{length-map}
+use Rattle.std.proofs.Common.{ℕ, Vec, Global, true, false, refl, sym, ap, ◌∙◌, arith}
 use Rattle.healer.specs.Records.{is_of}
 use Rattle.healer.proofs.Records.{numbers-none, number-taken, number-passed, numbers-all, frame-at, kind-shown, as-many}
 use Rattle.healer.proofs.healer.Healer.sent_since.Goals as goal
