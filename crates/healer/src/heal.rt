@@ -1,10 +1,10 @@
 //! All of it.
 
 ghost use Rattle.std.specs.Prelude.{◌≡◌, ◌++◌, IfOk, OnOk};
-ghost use Rattle.recovery.specs.Healing.{agree_on, highest_locked};
+ghost use Rattle.recovery.specs.Healing.{agree_on, highest_locked, over_lock};
 ghost use Rattle.world_schedule.specs.Running.{IsRunOf};
-ghost use Rattle.healer.specs.Courses.{GoesWhere, AreCorrect};
-ghost use Rattle.healer.specs.Grounds.{IsGround};
+ghost use Rattle.healer.specs.Courses.{GoesWhere, ToldWhere, HasReplica, AreCorrect};
+ghost use Rattle.healer.specs.Grounds.{HasWhole, IsGround};
 
 use crate::blocks::{rounds, to_climb};
 use crate::fetching::{fetch_all, lowest_first};
@@ -16,21 +16,28 @@ use ids::{ClientId, Digest, Fault, Height, ReplicaId};
 use std::alloc::Global;
 use world_schedule::{Event, Outcome, World};
 
-/// What a leader leads from: its lock, and the height of what justifies that, with the digests of that and of all below
-/// it, the lowest first.
+/// What a leader leads from: its lock, and the block that justifies that, with its height, and the digests of that and
+/// of all below it, the lowest first.
 #[derive(Drop)]
 struct Ground {
     lock: Digest,
+    over: Digest,
     height: Height,
     digests: Vec<Digest>,
 }
 
 /// The ground of a leader. `Pruned` where it has forgotten any block.
-fn ground_of(healer: &Healer<'_>, leader: ReplicaId) -> Result<Ground, Fault> {
+fn ground_of(healer: &Healer<'_>, leader: ReplicaId) -> Result<Ground, Fault>
+    ensures { IfOk result (λ g. ToldWhere healer.now (HasReplica leader) (λ w.
+        HasWhole w leader g.over g.height (over_lock leader w)
+        → IsGround leader g.lock g.height g.digests.items w)) }
+{
     let (over, height) = over_lock(healer, leader)?;
     let digests = lowest_first(healer, leader, &over, height)?;
+    let lock = lock_of(healer, leader);
     Ok(Ground {
-        lock: lock_of(healer, leader),
+        lock,
+        over,
         height,
         digests,
     })
