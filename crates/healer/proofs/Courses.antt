@@ -1,7 +1,6 @@
 -- What a healer's run is, one event after the other.
-use Rattle.ids.specs.declared.fault.Fault.{Fault}
 use Rattle.std.proofs.Common.{ℕ, ◌≡◌, ◌≤◌, List, [], ◌∷◌, ◌++◌, length, take, sym, ap, subst, ◌∙◌, refl, Option, Some, None}
-use Rattle.std.proofs.Common.{IfOk, Result, Ok, Err, is_some, true, append_assoc}
+use Rattle.std.proofs.Common.{is_some, true, append_assoc}
 use Rattle.std.proofs.lemmas.List.{take_all}
 use Rattle.definitions.specs.Worlds.{World, Happening}
 use Rattle.world_schedule.specs.declared.event.Event.{Event}
@@ -12,7 +11,7 @@ use Rattle.world_schedule.specs.Outcomes.{TellsOf}
 use Rattle.world_schedule.specs.Progress.{Stand, StandsAt, Happened, HasRun}
 use Rattle.world_schedule.specs.Running.{IsRunOf}
 use Rattle.world_schedule.proofs.Runs.{next-run, whole-run}
-use Rattle.healer.specs.Courses.{Course, Origin, IsTheirs}
+use Rattle.healer.specs.Courses.{Origin, IsTheirs}
 
 pub nothing-behind : {A : Type 0} (xs : List A) → xs ++ [] ≡ xs
 nothing-behind [] = refl

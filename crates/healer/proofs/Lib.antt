@@ -1,3 +1,16 @@
 pub mod Courses
 pub mod Supplied
 pub mod Phases
+pub mod Turns
+pub mod Members
+pub mod Tellings
+pub mod Waits
+pub mod Records
+pub mod Making
+pub mod Locks
+pub mod Newcomers
+pub mod Asking
+pub mod Lowest
+pub mod Reached
+pub mod Firsts
+pub mod Agreeing

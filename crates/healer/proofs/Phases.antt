@@ -18,11 +18,11 @@ use Rattle.world_schedule.specs.Schedules.{event_of}
 use Rattle.healer.specs.Courses.{Course, Takes, Goes}
 use Rattle.healer.proofs.Courses.{nothing-behind}
 
-after-none : (w : World) → after w [] ≡ w
+pub after-none : (w : World) → after w [] ≡ w
 unfolding after
 after-none w = refl
 
-after-append : (w : World) (xs ys : List Happening) → after w (xs ++ ys) ≡ after (after w xs) ys
+pub after-append : (w : World) (xs ys : List Happening) → after w (xs ++ ys) ≡ after (after w xs) ys
 unfolding after
 after-append w [] ys = refl
 after-append w (x ∷ xs) ys = after-append (happens w x) xs ys

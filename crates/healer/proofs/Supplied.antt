@@ -2,7 +2,7 @@
 use Rattle.ids.specs.declared.fault.Fault.{Fault}
 use Rattle.ids.specs.declared.fault.Fault.TheVariants as fault
 use Rattle.ids.specs.declared.kind.Kind.TheVariants as kind
-use Rattle.std.specs.Prelude.{◌==◌, ◌&&◌, not, nat_lt, nat_le, ◌^◌, if◌then◌else◌, ⊤}
+use Rattle.std.specs.Prelude.{◌==◌, ◌&&◌, not, nat_le, ◌^◌, if◌then◌else◌, ⊤}
 use Rattle.std.proofs.Common.{ℕ, zero, suc, ◌+◌, ◌-◌, arith, length-append, reverse, slice_get, ◌≡◌, ◌⊎◌, Bool, true, false, cond, List, [], ◌∷◌, ◌++◌, map, length, refl, sym, ap, subst}
 use Rattle.std.proofs.Common.{◌∙◌, inl, inr, Option, Some, None, Result, Ok, Err, OnOk}
 use Rattle.std.proofs.lemmas.Bool.{cond-true, cond-false, cond_both, cases_Bool, true≢false, not_from_true, eq-eqb, eqb-true, ne_eqb, and_parts, or_left}
@@ -15,7 +15,7 @@ use Rattle.definitions.specs.Bytes.{Bytes}
 use Rattle.definitions.specs.Checks.{Identity, findings}
 use Rattle.definitions.specs.Chronicles.{Admitted, Chronicle, Step, Step.took_block}
 use Rattle.definitions.specs.Events.{Effect, stepped, steps, on_checked, acts, effect, happens, party_of, out_of, answer_of}
-use Rattle.definitions.specs.Events.{nothing, comes, offers, submits, hears, told, submitted, heard_answer, submitted_answer, client_number}
+use Rattle.definitions.specs.Events.{comes, offers, submits, hears, told, submitted, heard_answer, submitted_answer, client_number}
 use Rattle.definitions.specs.Events.{frames_of, recorded, frame_of}
 use Rattle.definitions.specs.Frames.{Frame, Core, Certificate, reply_content, sender_of}
 use Rattle.definitions.specs.Frames as frame
@@ -28,9 +28,9 @@ use Rattle.definitions.specs.Replicas.{on_step, on_ruling, step, executes}
 use Rattle.definitions.specs.Rulings.{Input, Ruling, Ruling.due, Ruling.missing, Ruling.refusing, ruling, conflicts, lead, admitted, votes_for}
 use Rattle.definitions.specs.Rulings.{on_relay, Input.relayed_in, Input.timeout_in, Input.beat_in, Input.prune_in}
 use Rattle.definitions.specs.Rulings.{Input.lead_in, Input.ask_in}
-use Rattle.definitions.specs.Sendings.{Sending, To.to_party, fetch_frame}
+use Rattle.definitions.specs.Sendings.{Sending}
 use Rattle.definitions.specs.Sessions.{Client, Session, Heard, Heard.not_counted, Submitted, Submitted.not_sent, on_reply}
-use Rattle.definitions.specs.Sessions.{submission, is_ample, count_reply, Submitted.sent_request, request_frame}
+use Rattle.definitions.specs.Sessions.{submission, count_reply, Submitted.sent_request, request_frame}
 use Rattle.definitions.specs.Tally.{is_counted}
 use Rattle.definitions.specs.Trees.{Placing, Placing.stands, Placing.grows, Placing.lacks_parent, Placing.unfit}
 use Rattle.definitions.specs.Worlds.{World, Event, Happening, is_replica, self_of, submit, relay, inject, timeout, beat}

@@ -1,2 +1,6 @@
 pub mod Courses
+pub mod Fetching
+pub mod Grounds
+pub mod Locks
+pub mod Records
 pub mod Supplied

@@ -1,7 +1,7 @@
 -- Whether an event's party was refused memory, by what is told of the event.
 use Rattle.ids.specs.declared.fault.Fault.{Fault}
 use Rattle.ids.specs.declared.fault.Fault.TheVariants as fault
-use Rattle.std.specs.Prelude.{ℕ, ◌≡◌, ◌==◌, ◌&&◌, not, Bool, true, false, Option, Some, length}
+use Rattle.std.specs.Prelude.{◌≡◌, ◌==◌, ◌&&◌, not, Bool, true, false, Option, Some, length}
 use Rattle.definitions.specs.Events.{Effect}
 use Rattle.definitions.specs.Worlds.{Event, relay, inject, offer, ask}
 use Rattle.world_schedule.specs.declared.event.Event as code

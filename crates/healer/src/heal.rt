@@ -1,34 +1,80 @@
 //! All of it.
 
-ghost use Rattle.std.specs.Prelude.{◌≡◌, ◌++◌, IfOk};
+ghost use Rattle.std.specs.Prelude.{◌≡◌, ◌++◌, IfOk, OnOk};
+ghost use Rattle.recovery.specs.Healing.{agree_on, highest_locked, over_lock};
 ghost use Rattle.world_schedule.specs.Running.{IsRunOf};
+ghost use Rattle.healer.specs.Courses.{GoesWhere, ToldWhere, HasReplica, AreCorrect};
+ghost use Rattle.healer.specs.Grounds.{HasWhole, IsGround};
 
 use crate::blocks::{rounds, to_climb};
-use crate::fetching::fetch_all;
+use crate::fetching::{fetch_all, lowest_first};
 use crate::healer::Healer;
 use crate::leading::{highest_locked, lead_with, lock_of, make_first, over_lock};
 use crate::requests::{ask_again, request_of};
 use crate::views::{come_to, view_to_come};
-use ids::{ClientId, Fault, ReplicaId};
+use ids::{ClientId, Digest, Fault, Height, ReplicaId};
 use std::alloc::Global;
 use world_schedule::{Event, Outcome, World};
 
-/// Frame k is a client's request. A replica of the highest lock brings all into a view that it leads. All get what
-/// justifies its lock. It leads from its lock, with that request alone, above all that was voted for; and three more
-/// blocks decide.
+/// What a leader leads from: its lock, and the block that justifies that, with its height, and the digests of that and
+/// of all below it, the lowest first.
+#[derive(Drop)]
+struct Ground {
+    lock: Digest,
+    over: Digest,
+    height: Height,
+    digests: Vec<Digest>,
+}
+
+/// The ground of a leader. `Pruned` where it has forgotten any block.
+fn ground_of(healer: &Healer<'_>, leader: ReplicaId) -> Result<Ground, Fault>
+    ensures { IfOk result (λ g. ToldWhere healer.now (HasReplica leader) (λ w.
+        HasWhole w leader g.over g.height (over_lock leader w)
+        → IsGround leader g.lock g.height g.digests.items w)) }
+{
+    let (over, height) = over_lock(healer, leader)?;
+    let digests = lowest_first(healer, leader, &over, height)?;
+    let lock = lock_of(healer, leader);
+    Ok(Ground {
+        lock,
+        over,
+        height,
+        digests,
+    })
+}
+
+/// Frame k is a client's request. The leader, a replica of the highest lock, brings all into a view that it leads. All
+/// get what justifies its lock. It leads from its lock, with that request alone, above all that was voted for; and three
+/// more blocks decide.
+fn agree_under(
+    healer: &mut Healer<'_>,
+    correct: &[ReplicaId],
+    request: u64,
+    leader: ReplicaId,
+    ground: &Ground,
+) -> Result<(), Fault>
+    ensures origin { healer.new.origin ≡ healer.old.origin }
+    ensures came { OnOk result (GoesWhere healer.old
+        (λ w. AreCorrect correct.now w × (leader ≡ highest_locked w correct.now)
+        × IsGround leader ground.now.lock ground.now.height ground.now.digests.items w)
+        (agree_on request) healer.new) }
+{
+    let view = view_to_come(healer, correct, leader)?;
+    come_to(healer, correct, view)?;
+    make_first(healer, correct, leader, ground.height)?;
+    fetch_all(healer, correct, &ground.digests)?;
+    lead_with(healer, request, leader, ground.lock)?;
+    let count = to_climb(healer, correct, leader)?;
+    rounds(healer, correct, count, leader)
+}
+
+/// All correct replicas agree on a request, which is frame k, under one of them.
 fn agree_on(healer: &mut Healer<'_>, correct: &[ReplicaId], request: u64) -> Result<(), Fault>
     ensures { healer.new.origin ≡ healer.old.origin }
 {
     let leader = highest_locked(healer, correct);
-    let (over, height) = over_lock(healer, leader)?;
-    let lock = lock_of(healer, leader);
-    let view = view_to_come(healer, correct, leader)?;
-    come_to(healer, correct, view)?;
-    make_first(healer, correct, leader, height)?;
-    fetch_all(healer, correct, leader, &over, height)?;
-    lead_with(healer, request, leader, lock)?;
-    let count = to_climb(healer, correct, leader)?;
-    rounds(healer, correct, count, leader)
+    let ground = ground_of(healer, leader)?;
+    agree_under(healer, correct, request, leader, &ground)
 }
 
 impl<'a> Healer<'a> {

@@ -1,13 +1,19 @@
 //! A run that is healed.
 
-ghost use Rattle.std.specs.Prelude.{◌≡◌, ◌++◌, ◌∷◌, List, Option, IfOk, OnOk, length, map};
+ghost use Rattle.std.specs.Prelude.{◌≡◌, ◌==◌, ◌++◌, [], ◌∷◌, not, List, Option, IfOk, OnOk, MatchOption, length, map, drop, take};
+ghost use Rattle.std.specs.Prelude.{Some, slice_get};
 ghost use Rattle.definitions.specs.Worlds as worlds;
-ghost use Rattle.definitions.specs.Worlds.{Happening, relay, offer, of_record};
-ghost use Rattle.recovery.specs.Correct.{amply};
-ghost use Rattle.recovery.specs.Healing.{comes_to, offered_to};
+ghost use Rattle.definitions.specs.Worlds.{Happening, Sent, relay, offer, of_record};
+ghost use Rattle.recovery.specs.Correct.{amply, chronicle_of, lock_of};
+ghost use Rattle.definitions.specs.States.{is_known};
+ghost use Rattle.world_schedule.specs.Outcomes.{shown_frame, shown_sent};
+ghost use Rattle.recovery.specs.Healing.{comes_to, offered_to, receivers, sent_since, delivered, delivered_since};
 ghost use Rattle.world_schedule.specs.Progress.{StandsAt};
 ghost use Rattle.world_schedule.specs.Running.{IsRunOf};
-ghost use Rattle.healer.specs.Courses.{Takes, Goes};
+ghost use Rattle.healer.specs.Courses.{Takes, Goes, GoesWhere, Told, ToldWhere, HasReplica, AreCorrect, IsReplicaIn};
+ghost use Rattle.healer.specs.Records.{is_of, GoesTo};
+ghost use Rattle.ids.specs.Numbers.{kind_number};
+ghost use Rattle.signed_frames.specs.Outs.{to_of};
 ghost use Rattle.healer.specs.Supplied.{asks_in, lacked};
 
 use client_accept::Session;
@@ -74,6 +80,13 @@ fn last_answer(running: &Running<'_>) -> Option<Fault>
     }
 }
 
+/// Whether a frame of the record is of a kind.
+fn is_of(sent: &SentFrame, kind: Kind) -> bool
+    ensures { result ≡ (kind_number sent.now.kind == kind_number kind) }
+{
+    sent.kind.number() == kind.number()
+}
+
 /// How many frames were sent.
 fn count_frames(running: &Running<'_>) -> usize
     ensures { (hs : List Happening) (w : worlds.World) → StandsAt running.now hs w → result ≡ length w.sent }
@@ -133,22 +146,31 @@ impl<'a> Healer<'a> {
     }
 
     /// The sizes of the world.
-    pub(crate) fn config(&self) -> Config {
+    pub(crate) fn config(&self) -> Config
+        ensures { Told self.now (λ w. result ≡ w.sizes) }
+    {
         self.running.world().config()
     }
 
     /// How many frames were sent.
-    pub(crate) fn sent(&self) -> u64 {
-        self.running.frames().len() as u64
+    pub(crate) fn sent(&self) -> u64
+        ensures { Told self.now (λ w. result ≡ length w.sent) }
+    {
+        count_frames(&self.running) as u64
     }
 
     /// The record so far.
-    pub(crate) fn frames(&self) -> &[SentFrame] {
+    pub(crate) fn frames(&self) -> &[SentFrame]
+        ensures { Told self.now (λ w. map shown_frame result.now ≡ map shown_sent w.sent) }
+    {
         self.running.frames()
     }
 
     /// A replica as it stands.
-    pub(crate) fn replica(&self, number: ReplicaId) -> Option<&Replica> {
+    pub(crate) fn replica(&self, number: ReplicaId) -> Option<&Replica>
+        ensures { ToldWhere self.now (HasReplica number)
+            (λ w. MatchOption result ⊥ (λ r. IsReplicaIn w number r.now)) }
+    {
         match self.running.replica(number) {
             Some(archived) => Some(archived.replica()),
             None => None,
@@ -163,24 +185,34 @@ impl<'a> Healer<'a> {
         self.running.session(client)
     }
 
+    /// Whether a replica isn't faulty.
+    fn is_correct(&self, replica: ReplicaId) -> bool
+        ensures { Told self.now (λ w. result ≡ not (w.is_faulty replica)) }
+    {
+        !self.running.world().is_faulty(PartyId::from(replica))
+    }
+
     /// The correct replicas, by their numbers.
-    pub(crate) fn correct_replicas(&self) -> Result<Vec<ReplicaId>, Fault> {
+    pub(crate) fn correct_replicas(&self) -> Result<Vec<ReplicaId>, Fault>
+        ensures { IfOk result (λ rs. Told self.now (AreCorrect rs.items)) }
+    {
         let mut correct = Vec::new(self.alloc);
         for number in 0..self.config().n() {
-            let replica = ReplicaId(number);
-            if !self.running.world().is_faulty(replica.into()) {
-                correct.push(replica)?;
+            if self.is_correct(ReplicaId(number)) {
+                correct.push(ReplicaId(number))?;
             }
         }
         Ok(correct)
     }
 
     /// The numbers of the frames of a kind that were sent since there were so many.
-    pub(crate) fn sent_since(&self, before: u64, kind: Kind) -> Result<Vec<u64>, Fault> {
+    pub(crate) fn sent_since(&self, before: u64, kind: Kind) -> Result<Vec<u64>, Fault>
+        ensures { IfOk result (λ ks. Told self.now (λ w. ks.items ≡ sent_since before (is_of kind) w)) }
+    {
         let mut numbers = Vec::new(self.alloc);
         let frames = self.frames();
         for number in before..frames.len() as u64 {
-            if frames[number as usize].kind == kind {
+            if is_of(&frames[number as usize], kind) {
                 numbers.push(number)?;
             }
         }
@@ -259,30 +291,34 @@ fn offer_all(healer: &mut Healer<'_>, to: ReplicaId, frames: &[u64]) -> Result<(
     Ok(())
 }
 
-/// Each frame of a kind that was sent since there were so many comes to whom it goes.
-pub(crate) fn deliver_since(
-    healer: &mut Healer<'_>,
-    correct: &[ReplicaId],
-    before: u64,
-    kind: Kind,
-) -> Result<(), Fault>
-    ensures { healer.new.origin ≡ healer.old.origin }
+/// To whom a frame of the record goes, if it is of this kind.
+fn receiver(healer: &Healer<'_>, frame: u64, kind: Kind) -> Result<Option<To>, Fault>
+    ensures { IfOk result
+        (λ to. Told healer.now (λ w. (s : Sent) × (slice_get w.sent frame ≡ Some s) × GoesTo kind s to)) }
 {
-    let frames = healer.sent_since(before, kind)?;
-    for frame in &frames {
-        deliver(healer, correct, *frame)?;
+    let frames = healer.frames();
+    if frame >= frames.len() as u64 {
+        return Err(Fault::NoSuchFrame);
     }
-    Ok(())
+    let sent = &frames[frame as usize];
+    if is_of(sent, kind) {
+        Ok(Some(sent.to))
+    } else {
+        Ok(None)
+    }
 }
 
-/// A frame of the record comes to whom it goes: to all correct replicas, or to one party.
-fn deliver(healer: &mut Healer<'_>, correct: &[ReplicaId], frame: u64) -> Result<(), Fault>
-    ensures { healer.new.origin ≡ healer.old.origin }
+/// A frame of the record comes to all correct replicas, or to one party.
+fn bring_where(
+    healer: &mut Healer<'_>,
+    correct: &[ReplicaId],
+    frame: u64,
+    to: To,
+) -> Result<(), Fault>
+    ensures origin { healer.new.origin ≡ healer.old.origin }
+    ensures came { OnOk result (GoesWhere healer.old (AreCorrect correct.now)
+        (λ w. amply (comes_to (receivers w (to_of to)) (frame ∷ []))) healer.new) }
 {
-    let to = match healer.frames().get(frame as usize) {
-        Some(sent) => sent.to,
-        None => return Err(Fault::NoSuchFrame),
-    };
     match to {
         To::All => bring_to_each(healer, correct, &[frame]),
         To::Replica(replica) => bring_all(healer, PartyId::from(replica), &[frame]),
@@ -290,8 +326,46 @@ fn deliver(healer: &mut Healer<'_>, correct: &[ReplicaId], frame: u64) -> Result
     }
 }
 
+/// A frame of the record comes to whom it goes, if it is of this kind.
+fn deliver(
+    healer: &mut Healer<'_>,
+    correct: &[ReplicaId],
+    frame: u64,
+    kind: Kind,
+) -> Result<(), Fault>
+    ensures origin { healer.new.origin ≡ healer.old.origin }
+    ensures came { OnOk result (GoesWhere healer.old (AreCorrect correct.now)
+        (λ w. amply (delivered (is_of kind) w frame (take 1 (drop frame w.sent)))) healer.new) }
+{
+    let receiver = receiver(healer, frame, kind)?;
+    match receiver {
+        Some(to) => bring_where(healer, correct, frame, to),
+        None => Ok(()),
+    }
+}
+
+/// Each frame of a kind that was sent since there were so many comes to whom it goes.
+pub(crate) fn deliver_since(
+    healer: &mut Healer<'_>,
+    correct: &[ReplicaId],
+    before: u64,
+    kind: Kind,
+) -> Result<(), Fault>
+    ensures origin { healer.new.origin ≡ healer.old.origin }
+    ensures came { OnOk result (GoesWhere healer.old (AreCorrect correct.now)
+        (λ w. amply (delivered_since before (is_of kind) w)) healer.new) }
+{
+    let end = healer.sent();
+    for frame in before..end {
+        deliver(healer, correct, frame, kind)?;
+    }
+    Ok(())
+}
+
 /// The height of the block that a replica is locked on.
-pub(crate) fn lock_height(healer: &Healer<'_>, replica: ReplicaId) -> Height {
+pub(crate) fn lock_height(healer: &Healer<'_>, replica: ReplicaId) -> Height
+    ensures { ToldWhere healer.now (HasReplica replica) (λ w. result ≡ length (lock_of w replica)) }
+{
     match healer.replica(replica) {
         Some(replica) => replica.lock_height(),
         None => Height(0),
@@ -299,7 +373,9 @@ pub(crate) fn lock_height(healer: &Healer<'_>, replica: ReplicaId) -> Height {
 }
 
 /// Whether the block of a digest stands in a replica's window.
-pub(crate) fn is_known(healer: &Healer<'_>, replica: ReplicaId, block: &Digest) -> bool {
+pub(crate) fn is_known(healer: &Healer<'_>, replica: ReplicaId, block: &Digest) -> bool
+    ensures { ToldWhere healer.now (HasReplica replica) (λ w. result ≡ is_known block.now (chronicle_of w replica)) }
+{
     match healer.replica(replica) {
         Some(replica) => replica.knows(block),
         None => false,

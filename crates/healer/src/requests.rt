@@ -1,6 +1,8 @@
 //! The request of a client that waits.
 
-ghost use Rattle.std.specs.Prelude.{◌≡◌};
+ghost use Rattle.std.specs.Prelude.{◌≡◌, OnOk};
+ghost use Rattle.recovery.specs.Healing.{ask_again};
+ghost use Rattle.healer.specs.Courses.{GoesWhere, AreCorrect};
 
 use crate::healer::{Healer, bring_to_each, deliver_since};
 use client_accept::Session;
@@ -41,7 +43,8 @@ pub(crate) fn ask_again(
     correct: &[ReplicaId],
     request: u64,
 ) -> Result<(), Fault>
-    ensures { healer.new.origin ≡ healer.old.origin }
+    ensures origin { healer.new.origin ≡ healer.old.origin }
+    ensures came { OnOk result (GoesWhere healer.old (AreCorrect correct.now) (ask_again request) healer.new) }
 {
     let before = healer.sent();
     bring_to_each(healer, correct, &[request])?;

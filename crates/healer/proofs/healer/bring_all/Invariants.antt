@@ -1,7 +1,6 @@
 use Rattle.std.proofs.Common.{◌≡◌, map, take}
-use Rattle.definitions.specs.Worlds.{Event.relay, Event.offer, Source.of_record}
+use Rattle.definitions.specs.Worlds.{Event.relay}
 use Rattle.recovery.specs.Correct.{amply}
-use Rattle.recovery.specs.Healing.{comes_to, offered_to}
 use Rattle.healer.specs.Courses.{Goes}
 use Rattle.healer.proofs.healer.bring_all.Given as goal
 

@@ -1,4 +1,4 @@
-use Rattle.std.proofs.Common.{Option, Some, None, reverse, slice_get, ap, sym, ◌∙◌, ◌≡◌, List, ◌∷◌, length, ◌-◌}
+use Rattle.std.proofs.Common.{Option, reverse, ap, ◌∙◌, List}
 use Rattle.ids.specs.declared.fault.Fault.{Fault}
 use Rattle.healer.proofs.Supplied.{last-reversed, same-some, none-is}
 use Rattle.healer.proofs.healer.last_answer.Goals as goal

@@ -1,6 +1,5 @@
 use Rattle.std.proofs.Common.{arith}
 use Rattle.world_schedule.proofs.Runs.{first-run, goes-further}
-use Rattle.healer.proofs.Courses.{begins}
 use Rattle.healer.proofs.healer.Healer.new.Goals as goal
 
 pub loop-event-init : goal.loop-event-init

@@ -1,0 +1,184 @@
+-- A leader brings a request to be executed, and its client hears of it.
+use Rattle.ids.specs.declared.fault.Fault.{Fault}
+use Rattle.ids.specs.declared.fault.Fault.TheVariants as fault
+use Rattle.std.proofs.Common.{ℕ, zero, suc, ◌≡◌, ◌==◌, List, [], ◌∷◌, ◌++◌, map, length, find, reverse}
+use Rattle.std.proofs.Common.{sym, ap, subst, ◌∙◌, refl, None, Result, OnOk}
+use Rattle.std.proofs.lemmas.Bool.{cond_both, eqb-true}
+use Rattle.definitions.specs.Branches.{Branch, branch_eq, just2, highest}
+use Rattle.definitions.specs.Bytes.{Bytes}
+use Rattle.definitions.specs.Checks.{Identity}
+use Rattle.definitions.specs.Chronicles.{Admitted, Chronicle, taken_blocks, lock, Step.noted, Note.timed_out}
+use Rattle.definitions.specs.Digests.{digest_of}
+use Rattle.definitions.specs.Events.{Effect, effect, acts, stepped, happens, nothing, party_of}
+use Rattle.definitions.specs.Replicas.{MemorySupply.ample, Replica, Reaction, Standing, Standing.running, Standing.stopped}
+use Rattle.definitions.specs.Replicas.{Standing.cut_short, Reaction.fails, on_ruling, on_step, step}
+use Rattle.definitions.specs.Rulings.{Input.timeout_in, ruling, conflicts}
+use Rattle.definitions.specs.Runs.{after}
+use Rattle.definitions.specs.Worlds.{World, Event.timeout, Happening, self_of}
+use Rattle.recovery.specs.Correct.{amply, chronicle_of, lock_of, correct_replicas}
+use Rattle.recovery.specs.Healing.{Phase, in_turn, highest_locked, over_lock, justified_by, lowest_first, timeouts}
+use Rattle.recovery.specs.Healing.{waits_until, come_to, view_to_come, make_first, fetch_all, lead_with, rounds, to_climb}
+use Rattle.recovery.specs.Healing.{agree_on, ask_again, heal}
+use Rattle.world_schedule.specs.Progress.{Stand, StandsAt}
+use Rattle.healer.specs.Courses.{Course, Goes, GoesWhere, ToldWhere, HasReplica, AreCorrect}
+use Rattle.healer.specs.Fetching.{fetch_by}
+use Rattle.healer.specs.Grounds.{IsGround}
+use Rattle.healer.proofs.Asking.{fetches-branch}
+use Rattle.healer.proofs.Locks.{leader-is-replica}
+use Rattle.healer.proofs.Members.{still-correct, still-replica}
+use Rattle.healer.proofs.Phases.{after-append, joined}
+use Rattle.healer.proofs.Turns.{turns-one, turn-first, turn-last, on-ok-too}
+
+-- ---- timeouts take no block
+
+step-keeps : (self : Identity) (r : Replica) → taken_blocks (step self ample timeout_in r).0.chronicle ≡ taken_blocks r.chronicle
+unfolding step on_ruling on_step ruling taken_blocks
+step-keeps self r = by r.standing
+  where
+    by : (s : Standing)
+        → taken_blocks (elim s as (λ x. Replica × Reaction) [
+          | running ↦ on_ruling self ample (ruling self timeout_in r.chronicle) r.chronicle
+          | stopped ↦ (r, fails fault.Stopped)
+          | cut_short held ↦ (r, fails fault.Stopped)
+        ]).0.chronicle ≡ taken_blocks r.chronicle
+    by running =
+        cond_both (conflicts (noted timed_out) r.chronicle) _ _
+        (λ (x : Replica × Reaction). taken_blocks x.0.chronicle ≡ taken_blocks r.chronicle) (λ t. refl) (λ t. refl)
+    by stopped = refl
+    by (cut_short held) = refl
+
+acts-keep : (w : World) (r j : ℕ)
+    → taken_blocks ((acts w (timeout r) ample).replica j).chronicle ≡ taken_blocks (chronicle_of w j)
+unfolding acts stepped
+acts-keep w r j =
+    cond_both (j == r) (step (self_of w r) ample timeout_in (w.replica r)).0 (w.replica j)
+    (λ (x : Replica). taken_blocks x.chronicle ≡ taken_blocks (w.replica j).chronicle)
+    (λ e. step-keeps (self_of w r) (w.replica r)
+    ∙ ap (λ (i : ℕ). taken_blocks (w.replica i).chronicle) (sym (eqb-true j r e))) (λ e. refl)
+
+effect-keeps : (w : World) (r j : ℕ)
+    → taken_blocks ((effect w (timeout r, ample)).replica j).chronicle ≡ taken_blocks (chronicle_of w j)
+unfolding effect nothing
+effect-keeps w r j =
+    cond_both (w.is_faulty (party_of (timeout r))) (nothing w None) (acts w (timeout r) ample)
+    (λ (f : Effect). taken_blocks (f.replica j).chronicle ≡ taken_blocks (w.replica j).chronicle) (λ t. refl)
+    (λ t. acts-keep w r j)
+
+timeout-keeps : (w : World) (r j : ℕ)
+    → taken_blocks (chronicle_of (happens w (timeout r, ample)) j) ≡ taken_blocks (chronicle_of w j)
+unfolding happens
+timeout-keeps w r j = effect-keeps w r j
+
+timeouts-keep : (r n : ℕ) (w : World) (j : ℕ)
+    → taken_blocks (chronicle_of (after w (amply (timeouts r n))) j) ≡ taken_blocks (chronicle_of w j)
+unfolding timeouts after
+timeouts-keep r zero w j = refl
+timeouts-keep r (suc n) w j = timeouts-keep r n (happens w (timeout r, ample)) j ∙ timeout-keeps w r j
+
+waits-keep : (v : ℕ) (rs : List ℕ) (w : World) (j : ℕ)
+    → taken_blocks (chronicle_of (after w (in_turn (map (waits_until v) rs) w)) j) ≡ taken_blocks (chronicle_of w j)
+unfolding in_turn after
+waits-keep v [] w j = refl
+waits-keep v (r ∷ rs) w j =
+    let hs : List Happening = waits_until v r w in
+    ap (λ (z : World). taken_blocks (chronicle_of z j)) (after-append w hs (in_turn (map (waits_until v) rs) (after w hs)))
+    ∙ (waits-keep v rs (after w hs) j ∙ timeouts-keep r _ w j)
+
+same-lock : (c d : Chronicle) → taken_blocks d ≡ taken_blocks c → lock d ≡ lock c
+unfolding lock
+same-lock c d e = ap (λ (xs : List Admitted). highest (map (λ a. just2 a.branch) xs)) e
+
+-- so what justifies a lock stays
+over-kept : (v l : ℕ) (w : World) → over_lock l (after w (come_to v w)) ≡ over_lock l w
+unfolding come_to
+over-kept v l w =
+    let e : taken_blocks (chronicle_of (after w (come_to v w)) l) ≡ taken_blocks (chronicle_of w l) =
+    waits-keep v (correct_replicas w) w l in
+    ap (λ (m : Branch). justified_by (find (λ a. branch_eq (just2 a.branch) m)
+    (reverse (taken_blocks (chronicle_of (after w (come_to v w)) l))))) (same-lock (chronicle_of w l)
+    (chronicle_of (after w (come_to v w)) l) e)
+    ∙ ap (λ (xs : List Admitted). justified_by (find (λ a. branch_eq (just2 a.branch) (lock_of w l)) (reverse xs))) e
+
+-- ---- the phases of an agreement
+
+-- these happenings, in other words
+moved : (r : Stand) (hs : List Happening) (w : World) (xs ys : List Happening) → xs ≡ ys
+    → StandsAt r (hs ++ xs) (after w xs) → StandsAt r (hs ++ ys) (after w ys)
+moved r hs w xs ys e t = subst (λ (zs : List Happening). StandsAt r (hs ++ zs) (after w zs)) e t
+
+-- the first of several phases
+turned : (r : Stand) (hs : List Happening) (w : World) (p : Phase) (ps : List Phase)
+    → StandsAt r ((hs ++ p w) ++ in_turn ps (after w (p w))) (after (after w (p w)) (in_turn ps (after w (p w))))
+    → StandsAt r (hs ++ in_turn (p ∷ ps) w) (after w (in_turn (p ∷ ps) w))
+unfolding in_turn
+turned r hs w p ps t = joined r hs (p w) (in_turn ps (after w (p w))) w t
+
+-- what is known of a world in which these correct replicas agree under this leader
+abbrev pub MayAgree : List ℕ → ℕ → Bytes → ℕ → List Bytes → World → Type 0
+MayAgree rs l lock height digests w =
+    AreCorrect rs w × (l ≡ highest_locked w rs) × IsGround l lock height digests w
+
+pub agrees : (k l view height count : ℕ) (lock : Bytes) (rs : List ℕ) (digests below : List Bytes)
+    (a b c d e f : Course) (r : Result (Unit {0}) Fault) → digests ≡ below → ToldWhere a (AreCorrect rs) (λ w. view ≡ view_to_come l w) → GoesWhere a (AreCorrect rs) (come_to view) b
+    → GoesWhere b (λ w. AreCorrect rs w × (height ≡ length (over_lock l w))) (make_first l) c
+    → GoesWhere c (AreCorrect rs) (in_turn (map fetch_by digests)) d → Goes d (lead_with k l lock) e
+    → ToldWhere e (λ w. AreCorrect rs w × HasReplica l w) (λ w. count ≡ to_climb l w)
+    → OnOk r (GoesWhere e (AreCorrect rs) (rounds count l) f)
+    → OnOk r (GoesWhere a (MayAgree rs l lock height below) (agree_on k) f)
+unfolding agree_on
+agrees k l view height count lock rs digests below a b c d e f r same sees come first fetch lead climbs last =
+    on-ok-too _ _ r (λ decide hs w t x.
+    let own : AreCorrect rs w = x.0 in
+    let is : l ≡ highest_locked w (correct_replicas w) =
+    x.1 ∙ ap (λ (ps : List ℕ). highest_locked w ps) own in
+    let p1 : Phase = come_to (view_to_come l w) in
+    let p3 : Phase = fetch_all (lowest_first (over_lock l w)) in
+    let p4 : Phase = lead_with k l (digest_of (lock_of w l)) in
+    let p5 : Phase = λ v. rounds (to_climb l v) l v in
+    let w1 : World = after w (p1 w) in
+    let w2 : World = after w1 (make_first l w1) in
+    let w3 : World = after w2 (p3 w2) in
+    let w4 : World = after w3 (p4 w3) in
+    let own1 = still-correct rs w (p1 w) own in
+    let own2 = still-correct rs w1 (make_first l w1) own1 in
+    let own3 = still-correct rs w2 (p3 w2) own2 in
+    let own4 = still-correct rs w3 (p4 w3) own3 in
+    let there = leader-is-replica rs l w own x.1 in
+    let there4 : HasReplica l w4 =
+    still-replica l w3 (p4 w3) (still-replica l w2 (p3 w2) (still-replica l w1 (make_first l w1)
+    (still-replica l w (p1 w) there))) in
+    let t1 = moved b.stand hs w (come_to view w) (p1 w) (ap (λ (n : ℕ). come_to n w) (sees hs w t own)) (come hs w t own) in
+    let t2 = first (hs ++ p1 w) w1 t1 (own1, x.2.high ∙ ap (λ (y : Branch). length y) (sym (over-kept (view_to_come l w) l w))) in
+    let t3 =
+    moved d.stand ((hs ++ p1 w) ++ make_first l w1) w2 (in_turn (map fetch_by digests) w2) (p3 w2)
+    (ap (λ (ds : List Bytes). in_turn (map fetch_by ds) w2) (same ∙ x.2.below) ∙ fetches-branch (lowest_first (over_lock l w)) w2)
+    (fetch ((hs ++ p1 w) ++ make_first l w1) w2 t2 own2) in
+    let h3 : List Happening = ((hs ++ p1 w) ++ make_first l w1) ++ p3 w2 in
+    let t4 = moved e.stand h3 w3 (lead_with k l lock w3) (p4 w3) (ap (λ (y : Bytes). lead_with k l y w3) x.2.locked)
+    (lead h3 w3 t3) in
+    let t5 = moved f.stand (h3 ++ p4 w3) w4 (rounds count l w4) (p5 w4)
+    (ap (λ (n : ℕ). rounds n l w4) (climbs (h3 ++ p4 w3) w4 t4 (own4, there4))) (decide (h3 ++ p4 w3) w4 t4 own4) in
+    subst (λ (m : ℕ). StandsAt f.stand (hs ++ phases w m) (after w (phases w m))) is
+    (turned f.stand hs w p1 (make_first l ∷ p3 ∷ p4 ∷ p5 ∷ [])
+    (turned f.stand (hs ++ p1 w) w1 (make_first l) (p3 ∷ p4 ∷ p5 ∷ [])
+    (turned f.stand ((hs ++ p1 w) ++ make_first l w1) w2 p3 (p4 ∷ p5 ∷ [])
+    (turned f.stand h3 w3 p4 (p5 ∷ []) (moved f.stand (h3 ++ p4 w3) w4 (p5 w4) (in_turn (p5 ∷ []) w4)
+    (sym (turns-one p5 w4)) t5)))))) last
+  where
+    -- with this leader
+    phases : World → ℕ → List Happening
+    phases w m =
+        in_turn (come_to (view_to_come m w) ∷ make_first m ∷ fetch_all (lowest_first (over_lock m w))
+        ∷ lead_with k m (digest_of (lock_of w m)) ∷ (λ v. rounds (to_climb m v) m v) ∷ []) w
+
+-- ---- all of it
+
+pub heals : (k : ℕ) (rs : List ℕ) (P : World → Type 0) (a b c : Course) (r : Result (Unit {0}) Fault)
+    → ((w : World) → P w → AreCorrect rs w) → GoesWhere a P (agree_on k) b
+    → OnOk r (GoesWhere b (AreCorrect rs) (ask_again k) c) → OnOk r (GoesWhere a P (heal k) c)
+unfolding heal
+heals k rs P a b c r own g h =
+    on-ok-too _ _ r (λ m.
+    turn-first a b c P (AreCorrect rs) (agree_on k) (ask_again k ∷ []) g
+    (turn-last b c (AreCorrect rs) (ask_again k) m)
+    (λ w x. still-correct rs w (agree_on k w) (own w x))) h
