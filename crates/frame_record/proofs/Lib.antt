@@ -1,0 +1,5 @@
+pub mod Batches
+pub mod Costing
+pub mod Histories
+pub mod Order
+pub mod Parting

@@ -1,0 +1,3 @@
+pub mod Costs
+pub mod Recording
+pub mod Laws

@@ -1,0 +1,10 @@
+/// Why a frame isn't recorded.
+#[derive(Clone, Copy, Debug, PartialEq, Eq)]
+pub enum Refusal {
+    /// Alone it costs more than all may.
+    TooLarge,
+    /// It is of a height below the lowest that is recorded.
+    TooLow,
+    /// The allocator refused memory.
+    Memory,
+}
