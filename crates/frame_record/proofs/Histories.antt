@@ -8,7 +8,7 @@ use Rattle.std.specs.List.{AllByRecursion as Each}
 use Rattle.frame_record.specs.declared.recorded.Recorded.{Recorded}
 use Rattle.frame_record.specs.Costs.{cost, cost_of, fitting}
 use Rattle.frame_record.specs.Recording.{Recording, above, empty, inserted, is_low, up_to, with_frame}
-use Rattle.frame_record.specs.Laws.{Call, put, too_low, lost, KeepsTheNewest, Lead, all_put}
+use Rattle.frame_record.specs.Laws.{Call, put, too_low, known, lost, KeepsTheNewest, Lead, all_put}
 use Rattle.frame_record.proofs.Order.{Rising, each-append, each-filter, each-imp, filter-none, filter-whole, rising-back}
 use Rattle.frame_record.proofs.Order.{rising-below, rising-inserted}
 
@@ -164,6 +164,7 @@ keeps (too_low r ∷ calls) old new dropped so h =
     } in
     let later = keeps calls old new (inserted r dropped) now h.1 in
     subst (λ (l : List Recorded). Keeps l calls new) (sym whole) later
+keeps (known r ∷ calls) old new dropped so h = keeps calls old new dropped so h.1
 keeps (lost ∷ calls) old new dropped so h = keeps calls old new dropped so h
 
 pub keeps-the-newest : KeepsTheNewest

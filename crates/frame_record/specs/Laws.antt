@@ -3,12 +3,13 @@ use Rattle.std.specs.Prelude.{◌≡◌, ℕ, ◌≤◌, ◌<◌, List, [], ◌�
 use Rattle.definitions.specs.Bytes.{Bytes}
 use Rattle.frame_record.specs.declared.recorded.Recorded.{Recorded}
 use Rattle.frame_record.specs.Costs.{cost_of}
-use Rattle.frame_record.specs.Recording.{Recording, batch, empty, inserted, is_low, room_for, with_frame}
+use Rattle.frame_record.specs.Recording.{Recording, batch, empty, inserted, is_known, is_low, room_for, with_frame}
 
 -- a call that records a frame, and what came of it
 pub data Call : Type 0 where
   put : (r : Recorded) → Call
   too_low : (r : Recorded) → Call
+  known : (r : Recorded) → Call
   lost : Call
 
 -- these calls, one after the other, lead from one record to another
@@ -17,13 +18,15 @@ Lead old [] new = new ≡ old
 Lead old (put r ∷ calls) new =
     (nat_lt old.most (cost_of r) ≡ false) × (is_low r.height old.frames ≡ false) × Lead (with_frame r old) calls new
 Lead old (too_low r ∷ calls) new = (is_low r.height old.frames ≡ true) × Lead old calls new
+Lead old (known r ∷ calls) new = (is_known r old.frames ≡ true) × Lead old calls new
 Lead old (lost ∷ calls) new = Lead old calls new
 
--- all frames that were put, those too low as well, in order of height
+-- all frames that were put, those too low as well, in order of height; one that brought a known block is passed over
 abbrev pub all_put : List Recorded → List Call → List Recorded
 all_put frames [] = frames
 all_put frames (put r ∷ calls) = all_put (inserted r frames) calls
 all_put frames (too_low r ∷ calls) = all_put (inserted r frames) calls
+all_put frames (known r ∷ calls) = all_put frames calls
 all_put frames (lost ∷ calls) = all_put frames calls
 
 -- What is recorded is the end of all that was put, in order of height: what was dropped is all lower, or of the lowest

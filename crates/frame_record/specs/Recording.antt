@@ -1,11 +1,14 @@
 -- What is recorded.
 use Rattle.std.specs.Prelude.{ℕ, ◌≡◌, ◌-◌, ◌^◌, ◌<◌, ◌≤◌, max, Bool, false, List, [], ◌∷◌, ◌++◌, length, filter, map}
-use Rattle.std.specs.Prelude.{Option, option_map, slice_get, nat_le, nat_lt, if◌then◌else◌}
+use Rattle.std.specs.Prelude.{Option, Some, None, option_map, slice_get, nat_le, nat_lt, if◌then◌else◌}
 use Rattle.std.specs.Option.{option_map_or}
+use Rattle.std.specs.List.{list_any}
 use Rattle.std.specs.List.Sorted.{IsNonDecreasingBy}
 use Rattle.definitions.specs.Bytes.{Bytes}
 use Rattle.frame_record.specs.declared.recorded.Recorded.{Recorded}
-use Rattle.frame_record.specs.Costs.{cost, fitting}
+use Rattle.frame_record.specs.declared.refusal.Refusal.{Refusal}
+use Rattle.frame_record.specs.declared.refusal.Refusal.TheVariants.{TooLarge, TooLow, Known}
+use Rattle.frame_record.specs.Costs.{cost, cost_of, fitting, is_of}
 
 -- the frames, and how much they may cost
 pub record Recording : Type 0 where
@@ -44,6 +47,18 @@ highest frames = option_map (λ r. r.height) (slice_get frames (length frames - 
 -- a height below the lowest that is recorded
 abbrev pub is_low : (height : ℕ) → List Recorded → Bool
 is_low height frames = option_map_or (λ low. nat_lt height low) (lowest frames) false
+
+-- a frame that brought the same block is recorded
+abbrev pub is_known : Recorded → List Recorded → Bool
+is_known r frames = list_any (is_of r.height r.block) frames
+
+-- why a frame isn't recorded, if for another reason than memory
+abbrev pub why_not : Recording → Recorded → Option Refusal
+why_not old r =
+    if nat_lt old.most (cost_of r) then Some TooLarge
+    else if is_low r.height old.frames then Some TooLow
+    else if is_known r old.frames then Some Known
+    else None
 
 -- one frame more is recorded, and the oldest make way for what it costs
 abbrev pub with_frame : Recorded → Recording → Recording

@@ -1,9 +1,9 @@
-ghost use Rattle.std.specs.Prelude.{◌≡◌, ◌-◌, ◌^◌, ◌≤◌, IfOk, MatchBool, OnErr, OnOk, min, nat_lt};
+ghost use Rattle.std.specs.Prelude.{◌≡◌, ◌-◌, ◌^◌, ◌≤◌, IfOk, MatchOption, OnErr, OnOk, min, nat_lt};
 ghost use Rattle.frame_record.specs.Costs.{cost, cost_of};
-ghost use Rattle.frame_record.specs.Recording.{AreInOrder, batch, empty, frames_of, from_height, highest, is_low};
-ghost use Rattle.frame_record.specs.Recording.{lowest, with_frame};
+ghost use Rattle.frame_record.specs.Recording.{AreInOrder, batch, empty, frames_of, from_height, highest};
+ghost use Rattle.frame_record.specs.Recording.{is_known, is_low, lowest, why_not, with_frame};
 
-use crate::ordered::{batch_from, drop_oldest, insert};
+use crate::ordered::{batch_from, drop_oldest, has, insert};
 use crate::recorded::Recorded;
 use crate::refusal::Refusal;
 use bytes::Bytes;
@@ -45,32 +45,63 @@ impl FrameRecord {
         }
     }
 
-    /// Records a frame that was taken, of a height. The frames of the lowest heights make way, this one too where it is among
-    /// them. `TooLarge` exactly where it alone costs more than all may; `TooLow` exactly where its height is below the lowest
-    /// that is recorded; else `Memory` alone.
-    pub fn put(&mut self, height: Height, frame: Bytes) -> Result<(), Refusal>
-        ensures ok { OnOk result
-            (self.new ≡ with_frame (record { height = height; frame = frame }) self.old) }
+    /// Records a frame that was taken. The frames of the lowest heights make way, this one too where it is among them.
+    /// `TooLarge` exactly where it alone costs more than all may; then `TooLow` exactly where its height is below the lowest
+    /// that is recorded; then `Known` exactly where one that brought the same block is; else `Memory` alone.
+    pub fn put(&mut self, recorded: Recorded) -> Result<(), Refusal>
+        ensures ok { OnOk result (self.new ≡ with_frame recorded self.old) }
         ensures unchanged { OnErr result (self.new ≡ self.old) }
-        ensures refused { MatchBool
-            (nat_lt self.old.most (cost_of (record { height = height; frame = frame })))
-            (result ≡ Err Refusal.TooLarge)
-            (MatchBool (is_low height self.old.frames)
-            (result ≡ Err Refusal.TooLow) (OnErr result (result ≡ Err Refusal.Memory))) }
+        ensures refused { MatchOption (why_not self.old recorded) (OnErr result (result ≡ Err Refusal.Memory))
+            (λ refusal. result ≡ Err refusal) }
     {
-        let recorded = Recorded { height, frame };
+        match self.why_not(&recorded) {
+            Some(refusal) => Err(refusal),
+            None => self.add(recorded),
+        }
+    }
+
+    /// Why a frame isn't recorded, if for another reason than memory.
+    fn why_not(&self, recorded: &Recorded) -> Option<Refusal>
+        ensures { result ≡ why_not self.now recorded.now }
+    {
+        if self.is_large(recorded) {
+            Some(Refusal::TooLarge)
+        } else if self.is_low(recorded.height) {
+            Some(Refusal::TooLow)
+        } else if self.is_known(recorded) {
+            Some(Refusal::Known)
+        } else {
+            None
+        }
+    }
+
+    /// Records a frame. Where memory is refused, nothing changes.
+    fn add(&mut self, recorded: Recorded) -> Result<(), Refusal>
+        requires { cost_of recorded ≤ self.old.most }
+        ensures ok { OnOk result (self.new ≡ with_frame recorded self.old) }
+        ensures unchanged { OnErr result (self.new ≡ self.old) }
+        ensures memory { OnErr result (result ≡ Err Refusal.Memory) }
+    {
         let cost = recorded.cost();
-        if cost > self.most {
-            return Err(Refusal::TooLarge);
-        }
-        if self.is_low(height) {
-            return Err(Refusal::TooLow);
-        }
         let Ok(()) = insert(&mut self.frames, recorded) else {
             return Err(Refusal::Memory);
         };
         self.cost = drop_oldest(&mut self.frames, self.cost + cost, self.most);
         Ok(())
+    }
+
+    /// Whether a frame alone costs more than all may.
+    fn is_large(&self, recorded: &Recorded) -> bool
+        ensures { result ≡ nat_lt self.now.most (cost_of recorded.now) }
+    {
+        recorded.cost() > self.most
+    }
+
+    /// Whether one that brought the same block is recorded.
+    fn is_known(&self, recorded: &Recorded) -> bool
+        ensures { result ≡ is_known recorded.now self.now.frames }
+    {
+        has(&self.frames, recorded.height, &recorded.block)
     }
 
     /// Whether a height is below the lowest that is recorded.

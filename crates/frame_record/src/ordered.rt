@@ -2,14 +2,14 @@
 
 ghost use Rattle.std.specs.Prelude.{◌≡◌, ◌+◌, ◌≤◌, IfOk, IfErr, OnOk, OnErr, length, take, drop};
 ghost use Rattle.std.specs.Bool.{OnTrue};
-ghost use Rattle.std.specs.List.{AllWithin};
-ghost use Rattle.frame_record.specs.Costs.{cost, fitting};
+ghost use Rattle.std.specs.List.{AllWithin, list_any};
+ghost use Rattle.frame_record.specs.Costs.{cost, fitting, is_of};
 ghost use Rattle.frame_record.specs.Recording.{AreInOrder, above, batch, frames_of, from_height, inserted};
 ghost use Rattle.frame_record.specs.Recording.{room_for, up_to, within};
 
 use crate::recorded::Recorded;
 use bytes::Bytes;
-use ids::Height;
+use ids::{Digest, Height};
 use std::alloc::{AllocError, Global};
 use std::collections::VecDeque;
 
@@ -45,6 +45,24 @@ fn place_from(frames: &VecDeque<Recorded>, height: Height) -> usize
     ensures from { from_height height frames.now.items ≡ drop result frames.now.items }
 {
     frames.partition_point(|recorded| recorded.is_below(height))
+}
+
+/// Whether a frame of this height that brought this block stands there. It looks from the end down to that height.
+pub(crate) fn has(frames: &VecDeque<Recorded>, height: Height, block: &Digest) -> bool
+    requires { AreInOrder frames.now.items }
+    ensures { result ≡ list_any (is_of height block.now) frames.now.items }
+{
+    let len = frames.len();
+    for k in 0..len {
+        let recorded = &frames[len - 1 - k];
+        if recorded.is_below(height) {
+            return false;
+        }
+        if recorded.is_of(height, block) {
+            return true;
+        }
+    }
+    false
 }
 
 /// One frame more stands behind those of its height. Where memory is refused, nothing changes.

@@ -1,16 +1,17 @@
 //! One frame.
 
 ghost use Rattle.std.specs.Prelude.{◌≡◌, nat_le, nat_lt};
-ghost use Rattle.frame_record.specs.Costs.{cost_of};
+ghost use Rattle.frame_record.specs.Costs.{cost_of, is_of};
 
 use bytes::Bytes;
-use ids::Height;
+use ids::{Digest, Height};
 use tuning::PARCEL_SIZE;
 
-/// A frame that was taken, and the height that it is of.
+/// A frame that was taken, the block that it brought, and the height of that.
 #[derive(Drop)]
 pub struct Recorded {
     pub height: Height,
+    pub block: Digest,
     pub frame: Bytes,
 }
 
@@ -34,5 +35,12 @@ impl Recorded {
         ensures { result ≡ nat_lt self.now.height height }
     {
         self.height.0 < height.0
+    }
+
+    /// Whether it is of this height, and brought this block.
+    pub(crate) fn is_of(&self, height: Height, block: &Digest) -> bool
+        ensures { result ≡ is_of height block.now self.now }
+    {
+        self.height == height && self.block == *block
     }
 }

@@ -5,6 +5,8 @@ pub enum Refusal {
     TooLarge,
     /// It is of a height below the lowest that is recorded.
     TooLow,
+    /// A frame of its height that brought the same block is recorded.
+    Known,
     /// The allocator refused memory.
     Memory,
 }
