@@ -86,10 +86,14 @@ stays now s = s.is_served && not (is_over now s)
 abbrev pub whom : (now : ℕ) → CatchingUp → ℕ
 whom now s = if stays now s then s.peer else next_peer s.replicas s.own s.peer
 
+-- It asks for so many bytes: as many more for each question in a row that brought nothing new, up to the most.
+abbrev pub bytes_of : CatchingUp → ℕ
+bytes_of s = min (min (s.pace.bytes * more s.vain) (2 ^ 64 - 1)) s.pace.most_bytes
+
 -- the question that is due
 abbrev pub due_question : (now : ℕ) → CatchingUp → Option Question
 due_question now s =
-    if is_due now s then Some (record { to = whom now s; from = next_height s.height }) else None
+    if is_due now s then Some (record { to = whom now s; from = next_height s.height; bytes = bytes_of s }) else None
 
 -- it went out
 abbrev pub asked : (now : ℕ) → CatchingUp → CatchingUp
@@ -129,7 +133,7 @@ after_answer question s =
 
 abbrev pub standing_of : (behind peer : ℕ) → Option ℕ → Standing
 standing_of behind peer None = Behind behind
-standing_of behind peer (Some from) = Asking behind (record { to = peer; from = from })
+standing_of behind peer (Some from) = Asking behind peer from
 
 abbrev pub standing : (foremost : ℕ) → (is_beyond : Bool) → CatchingUp → Standing
 standing foremost is_beyond s =

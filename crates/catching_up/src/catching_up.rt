@@ -2,7 +2,7 @@ ghost use Rattle.std.specs.Prelude.{◌≡◌, ◌-◌, ◌<◌, ◌≢◌, nat_
 ghost use Rattle.ids.specs.Sizes.{replicas};
 ghost use Rattle.catching_up.specs.States.{after_answer, asked, asked_by_look, behind, due_question, is_awaited, is_behind};
 ghost use Rattle.catching_up.specs.States.{is_due, is_over, is_silent, looked, noted, resting, standing, stays, unasked};
-ghost use Rattle.catching_up.specs.States.{next_height, wait, whom};
+ghost use Rattle.catching_up.specs.States.{bytes_of, next_height, wait, whom};
 
 use crate::pace::Pace;
 use crate::question::Question;
@@ -193,6 +193,17 @@ impl CatchingUp {
         }
     }
 
+    /// How many bytes the next question asks for.
+    fn bytes(&self) -> u64
+        ensures { result ≡ bytes_of self.now }
+    {
+        let times = self.vain.saturating_add(1);
+        self.pace
+            .bytes
+            .saturating_mul(times)
+            .min(self.pace.most_bytes)
+    }
+
     /// The question that is due, if one is.
     fn due_question(&self, now: u64) -> Option<Question>
         ensures { result ≡ due_question now self.now }
@@ -203,6 +214,7 @@ impl CatchingUp {
         Some(Question {
             to: self.whom(now),
             from: next_height(self.height),
+            bytes: self.bytes(),
         })
     }
 
@@ -270,13 +282,7 @@ impl CatchingUp {
             return Standing::BeyondReach(behind);
         }
         match self.from {
-            Some(from) => Standing::Asking(
-                behind,
-                Question {
-                    to: self.peer,
-                    from,
-                },
-            ),
+            Some(from) => Standing::Asking(behind, self.peer, from),
             None => Standing::Behind(behind),
         }
     }

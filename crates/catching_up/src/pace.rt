@@ -10,4 +10,9 @@ pub struct Pace {
     pub most_pause: u64,
     /// For how long one is asked again and again, at most, before it's the next one's turn.
     pub turn: u64,
+    /// How many bytes are asked for at once; as many more for each question in a row that brought nothing new: of long frames
+    /// an answer has few heights, and only behind some of them something is executed.
+    pub bytes: u64,
+    /// That is no more than this.
+    pub most_bytes: u64,
 }

@@ -5,4 +5,6 @@ use ids::{Height, ReplicaId};
 pub struct Question {
     pub to: ReplicaId,
     pub from: Height,
+    /// The answer is to have so many bytes at most, or one frame.
+    pub bytes: u64,
 }
