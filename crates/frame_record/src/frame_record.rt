@@ -1,12 +1,12 @@
-ghost use Rattle.std.specs.Prelude.{◌≡◌, ◌-◌, ◌^◌, ◌≤◌, IfOk, MatchOption, OnErr, OnOk, min, nat_lt};
+ghost use Rattle.std.specs.Prelude.{◌≡◌, ◌==◌, length, ◌-◌, ◌^◌, ◌≤◌, IfOk, MatchOption, OnErr, OnOk, min, nat_lt};
 ghost use Rattle.frame_record.specs.Costs.{cost, cost_of};
 ghost use Rattle.frame_record.specs.Recording.{AreInOrder, batch, empty, frames_of, from_height, highest};
 ghost use Rattle.frame_record.specs.Recording.{is_known, is_low, lowest, why_not, with_frame};
 
+use crate::batch::Batch;
 use crate::ordered::{batch_from, drop_oldest, has, insert};
 use crate::recorded::Recorded;
 use crate::refusal::Refusal;
-use bytes::Bytes;
 use ids::Height;
 use std::alloc::{AllocError, Global};
 use std::collections::VecDeque;
@@ -114,11 +114,13 @@ impl FrameRecord {
         }
     }
 
-    /// What was recorded from a height on, the lowest first: as many frames as have at most so many bytes, and one in any
-    /// case. Their bytes are shared. None where nothing is recorded from there on.
-    pub fn from(&self, alloc: Global, height: Height, most: usize) -> Result<Vec<Bytes>, AllocError>
-        ensures { IfOk result
-            (λ frames. frames.items ≡ batch most (frames_of (from_height height self.now.frames))) }
+    /// What was recorded from a height on: as many frames as have at most so many bytes, and one in any case; none where
+    /// nothing was.
+    pub fn from(&self, alloc: Global, height: Height, most: usize) -> Result<Batch, AllocError>
+        ensures frames { IfOk result
+            (λ given. given.frames.items ≡ batch most (frames_of (from_height height self.now.frames))) }
+        ensures last { IfOk result (λ given. given.is_last
+            ≡ (length given.frames.items == length (from_height height self.now.frames))) }
     {
         batch_from(alloc, &self.frames, height, most)
     }

@@ -3,6 +3,7 @@
 #![tactic(auto)]
 
 mod announcements;
+mod batch;
 mod frame_record;
 mod laws;
 mod ordered;
@@ -10,6 +11,7 @@ mod recorded;
 mod refusal;
 
 pub use announcements::{Announced, Announcements};
+pub use batch::Batch;
 pub use frame_record::FrameRecord;
 pub use laws::{a_batch_is_a_beginning, the_newest_stay};
 pub use recorded::Recorded;

@@ -1,14 +1,14 @@
 //! Frames in order of height.
 
-ghost use Rattle.std.specs.Prelude.{◌≡◌, ◌+◌, ◌≤◌, IfOk, IfErr, OnOk, OnErr, length, take, drop};
+ghost use Rattle.std.specs.Prelude.{◌≡◌, ◌==◌, ◌+◌, ◌≤◌, IfOk, IfErr, OnOk, OnErr, length, take, drop};
 ghost use Rattle.std.specs.Bool.{OnTrue};
 ghost use Rattle.std.specs.List.{AllWithin, list_any};
 ghost use Rattle.frame_record.specs.Costs.{cost, fitting, is_of};
 ghost use Rattle.frame_record.specs.Recording.{AreInOrder, above, batch, frames_of, from_height, inserted};
 ghost use Rattle.frame_record.specs.Recording.{room_for, up_to, within};
 
+use crate::batch::Batch;
 use crate::recorded::Recorded;
-use bytes::Bytes;
 use ids::{Digest, Height};
 use std::alloc::{AllocError, Global};
 use std::collections::VecDeque;
@@ -100,20 +100,30 @@ fn copies(
     frames: &VecDeque<Recorded>,
     place: usize,
     most: usize,
-) -> Result<Vec<Bytes>, AllocError>
-    ensures { IfOk result (λ copies. copies.items ≡ within most (frames_of (drop place frames.now.items))) }
+) -> Result<Batch, AllocError>
+    requires { place ≤ length frames.now.items }
+    ensures frames { IfOk result
+        (λ batch. batch.frames.items ≡ within most (frames_of (drop place frames.now.items))) }
+    ensures last { IfOk result (λ batch. batch.is_last
+        ≡ (length batch.frames.items + place == length frames.now.items)) }
 {
     let mut copies = Vec::new(alloc);
     let mut left = most;
     for i in place..frames.len() {
         let frame = &frames[i].frame;
         if frame.len() > left {
-            return Ok(copies);
+            return Ok(Batch {
+                frames: copies,
+                is_last: false,
+            });
         }
         left -= frame.len();
         copies.push(frame.clone()?)?;
     }
-    Ok(copies)
+    Ok(Batch {
+        frames: copies,
+        is_last: true,
+    })
 }
 
 /// How many bytes a batch from a place on may have, which is to have so many: the first frame goes in any case.
@@ -133,10 +143,12 @@ pub(crate) fn batch_from(
     frames: &VecDeque<Recorded>,
     height: Height,
     most: usize,
-) -> Result<Vec<Bytes>, AllocError>
+) -> Result<Batch, AllocError>
     requires { AreInOrder frames.now.items }
-    ensures { IfOk result
-        (λ copies. copies.items ≡ batch most (frames_of (from_height height frames.now.items))) }
+    ensures frames { IfOk result
+        (λ given. given.frames.items ≡ batch most (frames_of (from_height height frames.now.items))) }
+    ensures last { IfOk result (λ given. given.is_last
+        ≡ (length given.frames.items == length (from_height height frames.now.items))) }
 {
     let place = place_from(frames, height);
     let room = room_from(frames, place, most);
