@@ -1,0 +1,3 @@
+pub mod GoingRound
+pub mod Raising
+pub mod Tellers

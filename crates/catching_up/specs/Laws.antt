@@ -1,0 +1,31 @@
+-- What the turns and the numbers that were told are for.
+use Rattle.std.specs.Prelude.{ℕ, ◌≡◌, ◌≢◌, ◌+◌, ◌<◌, ◌≤◌, Bool, false, List, [], ◌∷◌, Any, Contains, count_by, length, nat_le}
+use Rattle.catching_up.specs.States.{CatchingUp, IsSound, asked, stays, whom}
+
+-- the same replica, of as many, and the same one was asked last
+pub record IsLike (old new : CatchingUp) : Type 0 where
+  pub replicas : new.replicas ≡ old.replicas
+  pub own : new.own ≡ old.own
+  pub peer : new.peer ≡ old.peer
+
+-- These were asked one after the other, and none was asked again: what each brought was nothing new, or its turn was over.
+abbrev pub AskInARow : CatchingUp → List ℕ → Type 0
+AskInARow old [] = Unit
+AskInARow old (peer ∷ peers) = (s : CatchingUp) × (now : ℕ) × IsLike old s × (stays now s ≡ false)
+    × (peer ≡ whom now s) × AskInARow (asked now s) peers
+
+-- Of as many as there are others, asked in a row and none again, each other replica is one.
+abbrev pub EachIsAsked : Type 0
+EachIsAsked = (s : CatchingUp) (peers : List ℕ) → IsSound s → AskInARow s peers → s.replicas ≤ length peers + 1
+    → (peer : ℕ) → peer < s.replicas → peer ≢ s.own → Contains peers peer
+
+-- who told a height, and whether it lies
+pub record Teller : Type 0 where
+  pub height : ℕ
+  pub lies : Bool
+
+-- Where no more than so many lie, of more than so many that told a height, or a greater one, one doesn't lie.
+abbrev pub ACorrectOneTold : Type 0
+ACorrectOneTold = (faults height : ℕ) (tellers : List Teller) → count_by (λ t. t.lies) tellers ≤ faults
+    → faults < count_by (λ t. nat_le height t.height) tellers
+    → Any (λ t. (height ≤ t.height) × (t.lies ≡ false)) tellers

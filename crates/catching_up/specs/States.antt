@@ -1,0 +1,150 @@
+-- What a replica asked, and what came of it.
+use Rattle.std.specs.Prelude.{ℕ, ◌-◌, ◌*◌, ◌/◌, ◌^◌, ◌<◌, ◌==◌, ◌&&◌, ◌||◌, not, min, nat_le, nat_lt, Bool, false}
+use Rattle.std.specs.Prelude.{if◌then◌else◌, is_some, Option, Some, None}
+use Rattle.std.specs.Option.{option_map_or}
+use Rattle.ids.specs.Sizes.{Sizes, replicas}
+use Rattle.catching_up.specs.declared.pace.Pace.{Pace}
+use Rattle.catching_up.specs.declared.question.Question.{Question}
+use Rattle.catching_up.specs.declared.standing.Standing.{Standing}
+use Rattle.catching_up.specs.declared.standing.Standing.TheVariants.{AtOne, Behind, Asking, BeyondReach}
+use Rattle.catching_up.specs.Told.{more}
+use Rattle.catching_up.specs.Turns.{next_peer}
+
+-- Times are milliseconds.
+pub record CatchingUp : Type 0 where
+  pub replicas : ℕ  -- how many there are
+  pub own : ℕ  -- which of them it is
+  pub pace : Pace
+  pub height : ℕ  -- up to which it had executed when it was looked at last
+  pub peer : ℕ  -- who was asked last; itself before the first question
+  pub since : ℕ  -- when something new came last, or the last question went out
+  pub began : ℕ  -- when the peer's turn began
+  pub from : Option ℕ  -- from which height the answer is that it awaits
+  pub is_served : Bool  -- whether the last answer came to its end, and brought something new
+  pub vain : ℕ  -- how many questions went out since something new came
+
+-- nothing was executed, and nobody asked
+abbrev pub unasked : Sizes → (own : ℕ) → Pace → CatchingUp
+unasked sizes own pace = record {
+  replicas = replicas sizes;
+  own = own;
+  pace = pace;
+  height = 0;
+  peer = own;
+  since = 0;
+  began = 0;
+  from = None;
+  is_served = false;
+  vain = 0;
+}
+
+-- the height behind one
+abbrev pub next_height : ℕ → ℕ
+next_height height = more height
+
+-- ---- what is new
+
+-- where more is executed than before, something new came
+abbrev pub noted : (now height : ℕ) → CatchingUp → CatchingUp
+noted now height s = if nat_lt s.height height then record s { height = height; since = now; vain = 0 } else s
+
+-- by how many heights it is behind, and whether that is so much that it asks
+abbrev pub behind : (foremost : ℕ) → CatchingUp → ℕ
+behind foremost s = foremost - s.height
+
+abbrev pub is_behind : (foremost : ℕ) → CatchingUp → Bool
+is_behind foremost s = nat_lt s.pace.least (behind foremost s)
+
+-- it isn't far behind, and awaits nothing
+abbrev pub resting : CatchingUp → CatchingUp
+resting s = record s { from = None; is_served = false }
+
+-- ---- when a question is due, and to whom
+
+-- After so long in which nothing new came the next one is asked: a pause, and as much more for each round of questions
+-- that brought nothing, up to the longest.
+abbrev pub wait : CatchingUp → ℕ
+wait s = min (min (s.pace.pause * more (s.vain / (s.replicas - 1))) (2 ^ 64 - 1)) s.pace.most_pause
+
+abbrev pub is_silent : (now : ℕ) → CatchingUp → Bool
+is_silent now s = nat_le (wait s) (now - s.since)
+
+-- the peer's turn is over
+abbrev pub is_over : (now : ℕ) → CatchingUp → Bool
+is_over now s = nat_le s.pace.turn (now - s.began)
+
+-- A question is due at once behind an answer that brought something new; else when nothing new came for long, or in the
+-- midst of an answer where the peer's turn is over.
+abbrev pub is_due : (now : ℕ) → CatchingUp → Bool
+is_due now s = s.is_served || is_silent now s || (is_some s.from && is_over now s)
+
+-- the same peer is asked again: its last answer brought something new, and its turn isn't over
+abbrev pub stays : (now : ℕ) → CatchingUp → Bool
+stays now s = s.is_served && not (is_over now s)
+
+-- else the next one is
+abbrev pub whom : (now : ℕ) → CatchingUp → ℕ
+whom now s = if stays now s then s.peer else next_peer s.replicas s.own s.peer
+
+-- It asks for so many bytes: as many more for each question in a row that brought nothing new, up to the most.
+abbrev pub bytes_of : CatchingUp → ℕ
+bytes_of s = min (min (s.pace.bytes * more s.vain) (2 ^ 64 - 1)) s.pace.most_bytes
+
+-- the question that is due
+abbrev pub due_question : (now : ℕ) → CatchingUp → Option Question
+due_question now s =
+    if is_due now s then Some (record { to = whom now s; from = next_height s.height; bytes = bytes_of s }) else None
+
+-- it went out
+abbrev pub asked : (now : ℕ) → CatchingUp → CatchingUp
+asked now s = record s {
+  peer = whom now s;
+  since = now;
+  began = if stays now s then s.began else now;
+  from = Some (next_height s.height);
+  is_served = false;
+  vain = more s.vain;
+}
+
+-- ---- what is done at a look
+
+abbrev pub asked_by_look : (now height foremost : ℕ) → CatchingUp → Option Question
+asked_by_look now height foremost s =
+    if is_behind foremost (noted now height s) then due_question now (noted now height s) else None
+
+abbrev pub looked : (now height foremost : ℕ) → CatchingUp → CatchingUp
+looked now height foremost s =
+    if not (is_behind foremost (noted now height s)) then resting (noted now height s)
+    else if is_due now (noted now height s) then asked now (noted now height s)
+    else noted now height s
+
+-- ---- what is done behind an answer
+
+-- it awaits the answer to this question
+abbrev pub is_awaited : Question → CatchingUp → Bool
+is_awaited question s = (s.peer == question.to) && option_map_or (λ from. from == question.from) s.from false
+
+-- the answer came to its end: it served, where the height that it was asked from was executed by then
+abbrev pub after_answer : Question → CatchingUp → CatchingUp
+after_answer question s =
+    if is_awaited question s then record s { from = None; is_served = nat_le question.from s.height } else s
+
+-- ---- how it stands
+
+abbrev pub standing_of : (behind peer : ℕ) → Option ℕ → Standing
+standing_of behind peer None = Behind behind
+standing_of behind peer (Some from) = Asking behind peer from
+
+abbrev pub standing : (foremost : ℕ) → (is_beyond : Bool) → CatchingUp → Standing
+standing foremost is_beyond s =
+    if not (is_behind foremost s) then AtOne
+    else if is_beyond then BeyondReach (behind foremost s)
+    else standing_of (behind foremost s) s.peer s.from
+
+-- ---- what always holds
+
+-- it is one of the replicas, of which there are others, and so is who was asked
+pub record IsSound (s : CatchingUp) : Type 0 where
+  pub others : 1 < s.replicas
+  pub own : s.own < s.replicas
+  pub peer : s.peer < s.replicas

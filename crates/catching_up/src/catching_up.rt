@@ -1,0 +1,289 @@
+ghost use Rattle.std.specs.Prelude.{◌≡◌, ◌-◌, ◌<◌, ◌≢◌, nat_lt};
+ghost use Rattle.ids.specs.Sizes.{replicas};
+ghost use Rattle.catching_up.specs.States.{after_answer, asked, asked_by_look, behind, due_question, is_awaited, is_behind};
+ghost use Rattle.catching_up.specs.States.{is_due, is_over, is_silent, looked, noted, resting, standing, stays, unasked};
+ghost use Rattle.catching_up.specs.States.{bytes_of, next_height, wait, whom};
+
+use crate::pace::Pace;
+use crate::question::Question;
+use crate::ring::next_peer;
+use crate::standing::Standing;
+use ids::{Config, Height, ReplicaId};
+use std::marker::Model;
+
+/// What a replica asked, and what came of it.
+///
+/// It asks one peer at a time, from the height behind the last that it executed, and the same one again as long as each of its
+/// answers brought something new and its turn isn't over. Then it's the next one's turn, all round. Times are milliseconds
+/// of any clock that doesn't go back.
+#[derive(Clone, Copy, Debug)]
+pub struct CatchingUp {
+    replicas: u8,
+    own: ReplicaId,
+    pace: Pace,
+    /// Up to which it had executed when it was looked at last.
+    height: Height,
+    /// Who was asked last.
+    peer: ReplicaId,
+    /// When something new came last, or the last question went out.
+    since: u64,
+    /// When the peer's turn began.
+    began: u64,
+    /// From which height the answer is that it awaits.
+    from: Option<Height>,
+    /// Whether the peer's last answer came to its end, and brought something new.
+    is_served: bool,
+    /// How many questions went out since something new came.
+    vain: u64,
+}
+
+impl Model for CatchingUp {
+    ghost use Rattle.catching_up.specs.States as states;
+
+    ghost Value = { states.CatchingUp };
+
+    ghost view = { λ s. record {
+      replicas = s.replicas;
+      own = s.own;
+      pace = s.pace;
+      height = s.height;
+      peer = s.peer;
+      since = s.since;
+      began = s.began;
+      from = s.from;
+      is_served = s.is_served;
+      vain = s.vain;
+    } };
+
+    ghost invariant = { λ s. states.IsSound (record {
+      replicas = s.replicas;
+      own = s.own;
+      pace = s.pace;
+      height = s.height;
+      peer = s.peer;
+      since = s.since;
+      began = s.began;
+      from = s.from;
+      is_served = s.is_served;
+      vain = s.vain;
+    }) };
+
+    ghost inverse = { λ s. record {
+      replicas = s.replicas;
+      own = s.own;
+      pace = s.pace;
+      height = s.height;
+      peer = s.peer;
+      since = s.since;
+      began = s.began;
+      from = s.from;
+      is_served = s.is_served;
+      vain = s.vain;
+    } };
+}
+
+/// The height behind one.
+fn next_height(height: Height) -> Height
+    ensures { result ≡ next_height height }
+{
+    Height(height.0.saturating_add(1))
+}
+
+impl CatchingUp {
+    /// This replica has executed nothing, and asked nobody.
+    pub fn new(config: Config, own: ReplicaId, pace: Pace) -> CatchingUp
+        requires { own < replicas config }
+        ensures { result ≡ unasked config own pace }
+    {
+        CatchingUp {
+            replicas: config.n(),
+            own,
+            pace,
+            height: Height(0),
+            peer: own,
+            since: 0,
+            began: 0,
+            from: None,
+            is_served: false,
+            vain: 0,
+        }
+    }
+
+    /// Up to which height it has executed is noted. Where that is more than before, something new came.
+    fn note(&mut self, now: u64, height: Height)
+        ensures { self.new ≡ noted now height self.old }
+    {
+        if height.0 > self.height.0 {
+            self.height = height;
+            self.since = now;
+            self.vain = 0;
+        }
+    }
+
+    /// By how many heights it is behind the foremost.
+    fn behind(&self, foremost: Height) -> u64
+        ensures { result ≡ behind foremost self.now }
+    {
+        foremost.0.saturating_sub(self.height.0)
+    }
+
+    /// Whether that is so much that it asks.
+    fn is_behind(&self, foremost: Height) -> bool
+        ensures { result ≡ is_behind foremost self.now }
+    {
+        self.behind(foremost) > self.pace.least
+    }
+
+    /// It isn't far behind: it awaits no answer any more.
+    fn rest(&mut self)
+        ensures { self.new ≡ resting self.old }
+    {
+        self.from = None;
+        self.is_served = false;
+    }
+
+    /// After how long in which nothing new came the next one is asked.
+    fn wait(&self) -> u64
+        ensures { result ≡ wait self.now }
+    {
+        let rounds = self.vain / u64::from(self.replicas - 1);
+        let pauses = rounds.saturating_add(1);
+        self.pace
+            .pause
+            .saturating_mul(pauses)
+            .min(self.pace.most_pause)
+    }
+
+    /// Whether nothing new came for so long.
+    fn is_silent(&self, now: u64) -> bool
+        ensures { result ≡ is_silent now self.now }
+    {
+        now.saturating_sub(self.since) >= self.wait()
+    }
+
+    /// Whether the peer's turn is over.
+    fn is_over(&self, now: u64) -> bool
+        ensures { result ≡ is_over now self.now }
+    {
+        now.saturating_sub(self.began) >= self.pace.turn
+    }
+
+    /// Whether a question is due.
+    fn is_due(&self, now: u64) -> bool
+        ensures { result ≡ is_due now self.now }
+    {
+        self.is_served || self.is_silent(now) || (self.from.is_some() && self.is_over(now))
+    }
+
+    /// Whether the same peer is asked again.
+    fn stays(&self, now: u64) -> bool
+        ensures { result ≡ stays now self.now }
+    {
+        self.is_served && !self.is_over(now)
+    }
+
+    /// Whom the next question goes to.
+    fn whom(&self, now: u64) -> ReplicaId
+        ensures { result ≡ whom now self.now }
+    {
+        if self.stays(now) {
+            self.peer
+        } else {
+            next_peer(self.replicas, self.own, self.peer)
+        }
+    }
+
+    /// How many bytes the next question asks for.
+    fn bytes(&self) -> u64
+        ensures { result ≡ bytes_of self.now }
+    {
+        let times = self.vain.saturating_add(1);
+        self.pace
+            .bytes
+            .saturating_mul(times)
+            .min(self.pace.most_bytes)
+    }
+
+    /// The question that is due, if one is.
+    fn due_question(&self, now: u64) -> Option<Question>
+        ensures { result ≡ due_question now self.now }
+    {
+        if !self.is_due(now) {
+            return None;
+        }
+        Some(Question {
+            to: self.whom(now),
+            from: next_height(self.height),
+            bytes: self.bytes(),
+        })
+    }
+
+    /// The question that is due goes out.
+    fn ask(&mut self, now: u64, question: &Question)
+        requires to { question.now.to ≡ whom now self.old }
+        requires from { question.now.from ≡ next_height self.old.height }
+        ensures { self.new ≡ asked now self.old }
+    {
+        if !self.stays(now) {
+            self.began = now;
+        }
+        self.peer = question.to;
+        self.since = now;
+        self.from = Some(question.from);
+        self.is_served = false;
+        self.vain = self.vain.saturating_add(1);
+    }
+
+    /// The question that goes out at a moment, if one does, where the replica has executed up to this height, and the foremost
+    /// of the others up to that.
+    pub fn look(&mut self, now: u64, height: Height, foremost: Height) -> Option<Question>
+        ensures question { result ≡ asked_by_look now height foremost self.old }
+        ensures state { self.new ≡ looked now height foremost self.old }
+    {
+        self.note(now, height);
+        if !self.is_behind(foremost) {
+            self.rest();
+            return None;
+        }
+        let question = self.due_question(now)?;
+        self.ask(now, &question);
+        Some(question)
+    }
+
+    /// Whether it awaits the answer to this.
+    fn is_awaited(&self, question: &Question) -> bool
+        ensures { result ≡ is_awaited question.now self.now }
+    {
+        self.peer == question.to && self.from == Some(question.from)
+    }
+
+    /// The answer to a question came to its end: all of it was taken. Any other end than the one that is awaited is passed
+    /// over.
+    pub fn answered(&mut self, now: u64, height: Height, question: &Question)
+        ensures { self.new ≡ after_answer question.now (noted now height self.old) }
+    {
+        self.note(now, height);
+        if self.is_awaited(question) {
+            self.from = None;
+            self.is_served = self.height.0 >= question.from.0;
+        }
+    }
+
+    /// How it stands, where the foremost of the others executed up to this height, and where all others told that what
+    /// they recorded lies above what it needs, or not all.
+    pub fn standing(&self, foremost: Height, is_beyond: bool) -> Standing
+        ensures { result ≡ standing foremost is_beyond self.now }
+    {
+        let behind = self.behind(foremost);
+        if !self.is_behind(foremost) {
+            return Standing::AtOne;
+        }
+        if is_beyond {
+            return Standing::BeyondReach(behind);
+        }
+        match self.from {
+            Some(from) => Standing::Asking(behind, self.peer, from),
+            None => Standing::Behind(behind),
+        }
+    }
+}

@@ -1,0 +1,18 @@
+/// How fast a replica asks. Times are milliseconds.
+#[derive(Clone, Copy, Debug, PartialEq, Eq)]
+pub struct Pace {
+    /// How far behind it asks: more heights than so many.
+    pub least: u64,
+    /// After how long in which nothing was executed the next one is asked, where one at least of the others asked in the last
+    /// round brought something new; as much more for each round in which none did.
+    pub pause: u64,
+    /// That is no longer than this.
+    pub most_pause: u64,
+    /// For how long one is asked again and again, at most, before it's the next one's turn.
+    pub turn: u64,
+    /// How many bytes are asked for at once; as many more for each question in a row that brought nothing new: of long frames
+    /// an answer has few heights, and only behind some of them something is executed.
+    pub bytes: u64,
+    /// That is no more than this.
+    pub most_bytes: u64,
+}

@@ -1,0 +1,4 @@
+pub mod Costs
+pub mod Recording
+pub mod Laws
+pub mod Announcing
