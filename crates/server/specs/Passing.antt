@@ -3,11 +3,13 @@ use Rattle.std.specs.Prelude.{ℕ, ◌≡◌, ◌<◌, ◌||◌, Bool, true, Lis
 use Rattle.ids.specs.declared.limits.TheConstants.{MOST_REPLICAS}
 use Rattle.fabric.specs.ReplicaSets.{is_in}
 
--- at most so many are passed over: these; and what each replica told
+-- at most so many are passed over: these; what each replica told, who told something, and who isn't heard
 pub record PassingState : Type 0 where
   pub most : ℕ
   pub voters : List Bool
   pub told : List (List Bool)
+  pub tellers : List Bool
+  pub unheard : List Bool
 
 -- so many replicas told that a voter's votes weren't right for them, where this is what each told
 abbrev pub tellers : (told : List (List Bool)) → (voter : ℕ) → ℕ

@@ -4,15 +4,16 @@ use crate::doubts::{Doubt, doubt_in};
 use crate::passing::Passing;
 use authenticators::VerifyingKeyring;
 use fabric::ReplicaSet;
-use ids::{Config, ReplicaId};
-use std::sync::atomic::AtomicBool;
+use ids::{Config, ReplicaId, View};
 use std::sync::atomic::Ordering::SeqCst;
+use std::sync::atomic::{AtomicBool, AtomicU64};
 use std::sync::{Mutex, Wait};
 
 /// The replicas whose votes a replica passes over where it leads, under their lock.
 #[derive(Drop)]
 pub(crate) struct PassedOver {
-    config: Config,
+    /// The view that the replica was in when it was asked last.
+    view: AtomicU64,
     is_asked: AtomicBool,
     are_any: AtomicBool,
     passing: Mutex<Passing>,
@@ -22,15 +23,19 @@ impl PassedOver {
     /// Nobody is.
     pub(crate) fn none(config: Config) -> PassedOver {
         PassedOver {
-            config,
+            view: AtomicU64::new(0),
             is_asked: AtomicBool::new(false),
             are_any: AtomicBool::new(false),
             passing: Mutex::new(Passing::none(config)),
         }
     }
 
-    /// The next refused frame is to be looked at.
-    pub(crate) fn ask(&self) {
+    /// The replica is in this view, and the next refused frame is to be looked at. In another view than before all are heard
+    /// again.
+    pub(crate) fn ask<R: Wait>(&self, rt: &R, view: View) {
+        if self.view.swap(view.0, SeqCst) != view.0 {
+            self.passing.lock(rt).hear_all();
+        }
         self.is_asked.store(true, SeqCst);
     }
 
@@ -63,7 +68,7 @@ impl PassedOver {
 
     /// Nobody is any more.
     pub(crate) fn forget<R: Wait>(&self, rt: &R) {
-        *self.passing.lock(rt) = Passing::none(self.config);
+        self.passing.lock(rt).forget();
         self.are_any.store(false, SeqCst);
     }
 }

@@ -1,6 +1,7 @@
 //! Which replicas a leader does without.
 
 ghost use Rattle.std.specs.Prelude.{◌≡◌, ◌||◌, ◌<◌, ◌≤◌, ℕ, true, replicate};
+ghost use Rattle.std.specs.Bool.{OnFalse, OnTrue};
 ghost use Rattle.ids.specs.declared.limits.TheConstants.{MOST_REPLICAS};
 ghost use Rattle.fabric.specs.ReplicaSets.{is_in, nobody, size};
 ghost use Rattle.server.specs.Passing.{is_sure, tellers, Has, HasNoOther};
@@ -10,12 +11,12 @@ use ids::{Config, MOST_REPLICAS, ReplicaId};
 use std::marker::Model;
 
 /// The replicas whose votes weren't right for this one in certificates of its leaders, or for others in certificates of this
-/// one. A certificate with such a vote may be good for its leader alone, so a leader does without it as long as it finds
-/// others'.
+/// one. A certificate with such a vote may be good for its leader alone, or for all but one, who then falls behind. So a leader
+/// does without it as long as it finds others'.
 ///
 /// What a leader's certificate shows may be made up by that leader, and what others tell by them. So those that are passed
-/// over are never more than may be faulty; of what others tell, more than may be faulty have to tell the same; and all is
-/// forgotten where the replica leads from its lock.
+/// over are never more than may be faulty; and where the replica leads from its lock all is forgotten, and who told
+/// something isn't heard any more in this view, unless more than may be faulty tell the same.
 #[derive(Drop)]
 pub(crate) struct Passing {
     /// As many as may be faulty.
@@ -23,6 +24,10 @@ pub(crate) struct Passing {
     voters: ReplicaSet,
     /// Whose votes weren't right for each replica, by what it told.
     told: [ReplicaSet; MOST_REPLICAS],
+    /// Who told something.
+    tellers: ReplicaSet,
+    /// Who isn't heard.
+    unheard: ReplicaSet,
 }
 
 impl Model for Passing {
@@ -32,23 +37,44 @@ impl Model for Passing {
 
     ghost Value = { PassingState };
 
-    ghost view = { λ p. record { most = p.most; voters = p.voters; told = p.told } };
+    ghost view = { λ p. record {
+      most = p.most;
+      voters = p.voters;
+      told = p.told;
+      tellers = p.tellers;
+      unheard = p.unheard;
+    } };
 
     ghost invariant = { λ p. sets.size p.voters ≤ p.most };
 }
 
 impl Passing {
-    /// Nobody is passed over among the replicas of these sizes, and nothing was told.
+    /// Nobody is passed over, nothing was told, and these aren't heard.
+    fn without(most: usize, unheard: ReplicaSet) -> Passing
+        ensures { result ≡ record {
+          most = most;
+          voters = nobody;
+          told = replicate MOST_REPLICAS nobody;
+          tellers = nobody;
+          unheard = unheard;
+        } }
+    {
+        Passing {
+            most,
+            voters: ReplicaSet::none(),
+            told: [ReplicaSet::none(); MOST_REPLICAS],
+            tellers: ReplicaSet::none(),
+            unheard,
+        }
+    }
+
+    /// Nobody is passed over among the replicas of these sizes, and all are heard.
     pub(crate) fn none(config: Config) -> Passing
         ensures most { result.most ≡ config.faults }
         ensures voters { result.voters ≡ nobody }
-        ensures told { result.told ≡ replicate MOST_REPLICAS nobody }
+        ensures unheard { result.unheard ≡ nobody }
     {
-        Passing {
-            most: usize::from(config.faults()),
-            voters: ReplicaSet::none(),
-            told: [ReplicaSet::none(); MOST_REPLICAS],
-        }
+        Passing::without(usize::from(config.faults()), ReplicaSet::none())
     }
 
     /// Whether a replica is passed over.
@@ -64,7 +90,7 @@ impl Passing {
     pub(crate) fn find(&mut self, found: ReplicaSet)
         ensures found { size found ≤ self.old.most → Has self.new.voters found }
         ensures no_other { HasNoOther self.new.voters self.old.voters found }
-        ensures rest { (self.new.most ≡ self.old.most) × (self.new.told ≡ self.old.told) }
+        ensures rest { self.new ≡ record self.old { voters = self.new.voters } }
     {
         let both = self.voters.or(&found);
         if both.len() <= self.most {
@@ -95,10 +121,26 @@ impl Passing {
         sure
     }
 
+    /// Whom to find where a replica told of these: these, if it is heard, else those of whom enough told.
+    fn believed(&self, from: ReplicaId, voters: &ReplicaSet) -> ReplicaSet
+        ensures heard { OnFalse (is_in self.now.unheard from) (result ≡ voters.now) }
+        ensures unheard { OnTrue (is_in self.now.unheard from)
+            ((voter : ℕ) → voter < MOST_REPLICAS
+            → is_in result voter ≡ is_sure self.now.most self.now.told voter) }
+    {
+        if self.unheard.has(from) {
+            self.sure()
+        } else {
+            *voters
+        }
+    }
+
     /// A replica told that votes of these weren't right for it.
     pub(crate) fn hear(&mut self, from: ReplicaId, voters: &ReplicaSet)
-        ensures no_other { (voter : ℕ) → voter < MOST_REPLICAS → is_in self.new.voters voter ≡ true
-            → (is_in self.old.voters voter || is_sure self.old.most self.new.told voter) ≡ true }
+        ensures unheard { OnTrue (is_in self.old.unheard from)
+            ((voter : ℕ) → voter < MOST_REPLICAS → is_in self.new.voters voter ≡ true
+            → (is_in self.old.voters voter || is_sure self.old.most self.new.told voter) ≡ true) }
+        ensures still { self.new.unheard ≡ self.old.unheard }
         ensures most { self.new.most ≡ self.old.most }
     {
         let place = usize::from(from.0);
@@ -106,7 +148,27 @@ impl Passing {
             return;
         }
         self.told[place] = self.told[place].or(voters);
-        let sure = self.sure();
-        self.find(sure);
+        self.tellers.add(from);
+        let found = self.believed(from, voters);
+        self.find(found);
+    }
+
+    /// Nobody is passed over any more. Who told something isn't heard.
+    pub(crate) fn forget(&mut self)
+        ensures voters { self.new.voters ≡ nobody }
+        ensures told { self.new.told ≡ replicate MOST_REPLICAS nobody }
+        ensures unheard { (teller : ℕ) → teller < MOST_REPLICAS
+            → is_in self.new.unheard teller ≡ (is_in self.old.unheard teller || is_in self.old.tellers teller) }
+        ensures most { self.new.most ≡ self.old.most }
+    {
+        let unheard = self.unheard.or(&self.tellers);
+        *self = Passing::without(self.most, unheard);
+    }
+
+    /// Another view began: all are heard again.
+    pub(crate) fn hear_all(&mut self)
+        ensures { self.new ≡ record self.old { unheard = nobody } }
+    {
+        self.unheard = ReplicaSet::none();
     }
 }

@@ -179,10 +179,11 @@ impl<'s, 'a> Watched for Timed<'s, 'a> {
 
     fn tell_trouble(&self, is_on: bool, view: View) {
         self.station.trouble.show(is_on, view);
-        self.station.passed_over.ask();
     }
 
     fn hand_in<R: Wait>(&self, rt: &R, due: Due) {
+        let view = self.station.trouble.view();
+        self.station.passed_over.ask(rt, view);
         if due.beat {
             let _ = self.links.beat(rt, self.station.number);
         }
