@@ -6,6 +6,7 @@ ghost use Rattle.definitions.specs.Digests.{digest_of};
 ghost use Rattle.recovery.specs.Correct.{chronicle_of, lock_of};
 ghost use Rattle.recovery.specs.Healing.{highest_locked, newcomers, over_lock, make_first, lead_with};
 ghost use Rattle.healer.specs.Courses.{Goes, GoesWhere, ToldWhere, HasReplica, AreCorrect};
+ghost use Rattle.healer.specs.Grounds.{HasWhole};
 ghost use Rattle.healer.specs.Locks.{higher_locked};
 
 use crate::healer::{Healer, bring_to_each, lock_height};
@@ -77,7 +78,10 @@ fn newcomers(healer: &Healer<'_>, replicas: &[ReplicaId]) -> Result<Vec<ReplicaI
 
 /// A certified block that justifies the leader's lock, with its height: genesis, where the leader took none over such a
 /// one. `Pruned` where the leader has forgotten any block.
-pub(crate) fn over_lock(healer: &Healer<'_>, leader: ReplicaId) -> Result<(Digest, Height), Fault> {
+pub(crate) fn over_lock(healer: &Healer<'_>, leader: ReplicaId) -> Result<(Digest, Height), Fault>
+    ensures { IfOk result (λ x. ToldWhere healer.now (HasReplica leader)
+        (λ w. HasWhole w leader x.0 x.1 (over_lock leader w))) }
+{
     let genesis = (genesis_digest(), Height(0));
     let Some(replica) = healer.replica(leader) else {
         return Ok(genesis);
