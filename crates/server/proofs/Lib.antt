@@ -1,2 +1,5 @@
 mod Filling
 mod Lending
+mod Lies
+mod Numbers
+mod Sharing

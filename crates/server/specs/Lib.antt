@@ -2,4 +2,5 @@ pub mod Doubting
 pub mod Ends
 pub mod Guarding
 pub mod Keeping
+pub mod Stations
 pub mod Workers
