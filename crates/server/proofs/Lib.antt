@@ -1,3 +1,6 @@
 mod Filling
 mod Lending
 pub mod Sets
+mod Lies
+mod Numbers
+mod Sharing

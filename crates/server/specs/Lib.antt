@@ -3,4 +3,5 @@ pub mod Ends
 pub mod Guarding
 pub mod Keeping
 pub mod Passing
+pub mod Stations
 pub mod Workers

@@ -1,6 +1,7 @@
 -- The workers of replicas: how many there are, and how they lie.
-use Rattle.std.specs.Prelude.{◌≡◌, ℕ, All, List, Option, None, Some, nat_lt, option_map}
+use Rattle.std.specs.Prelude.{◌≡◌, ℕ, ◌+◌, ⊤, All, List, [], ◌∷◌, Vec, Option, None, Some, nat_lt, option_map}
 use Rattle.std.specs.Prelude.{if◌then◌else◌}
+use Rattle.std.specs.Global.{Global}
 use Rattle.liars.specs.declared.lying.Liar.{Liar}
 use Rattle.server.specs.declared.terms.Liars.{Liars}
 use Rattle.server.specs.declared.terms.Workers.{Workers}
@@ -33,3 +34,8 @@ lie_of worker = option_map (λ start. (start.lying.liar, start.until)) worker.li
 -- all workers lie so, or none lies
 abbrev pub AllLieBy : Option Liars → List WorkerStart → Type 0
 AllLieBy liars workers = All (λ (worker : WorkerStart). lie_of worker ≡ option_map lie_by liars) workers
+
+-- the workers of one replica after another, from this number on, lie as the terms say of their replica
+abbrev pub LieFrom : Option Liars → ℕ → List (Vec WorkerStart Global) → Type 0
+LieFrom liars first [] = ⊤
+LieFrom liars first (workers ∷ others) = AllLieBy (liar_at liars first) workers.items × LieFrom liars (first + 1) others

@@ -1,9 +1,12 @@
 //! Replicas, each under its lock, and what their workers start with.
 
-ghost use Rattle.std.specs.Prelude.{◌≡◌, ◌<◌, ◌⊎◌, map, option_map, All, Err, IfOk, OnErr, vec_len};
+ghost use Rattle.std.specs.Prelude.{◌≡◌, ◌<◌, ◌⊎◌, ◌^◌, ◌-◌, map, option_map, unwrap_or, All, Err, IfOk, OnErr, vec_len, false};
 ghost use Rattle.ids.specs.declared.fault.Fault.TheVariants.{Memory, NoSuchParty};
 ghost use Rattle.liars.specs.Lying.{new_lying};
-ghost use Rattle.server.specs.Workers.{AllLieBy, lie_by, lie_of, liar_at, worker_count};
+ghost use Rattle.server.specs.Keeping.{keep};
+ghost use Rattle.server.specs.Stations.{AllKeep, fresh, numbers_of, shared};
+ghost use Rattle.server.specs.Workers.{AllLieBy, LieFrom, lie_by, lie_of, liar_at, worker_count};
+ghost use Rattle.key_file.specs.KeyFile.{keys_of_party};
 ghost use Rattle.std.specs.List.{range_with_len};
 ghost use Rattle.ids.specs.Sizes.{replicas};
 ghost use Rattle.marks.specs.Eyes.{first_eye};
@@ -288,6 +291,7 @@ fn new_worker(
     liars: Option<Liars>,
 ) -> Result<WorkerStart, Fault>
     ensures lies { IfOk result (λ worker. lie_of worker ≡ option_map lie_by liars) }
+    ensures shared { IfOk result (λ worker. kept.new ≡ shared 1 kept.old) }
     ensures memory { OnErr result (result ≡ Err Memory) }
 {
     let share = kept.share()?;
@@ -312,6 +316,7 @@ fn new_kept<'a>(
 ) -> Result<Kept<'a>, Fault>
     requires words { marks.now.words ≡ replicas keyring.now.sizes }
     requires eye { eye ≡ first_eye marks.now keyring.now.party }
+    ensures made { IfOk result (λ kept. kept ≡ fresh keyring.now eye) }
     ensures memory { OnErr result (result ≡ Err Memory) }
 {
     let (config, number) = (keyring.config(), keyring.replica());
@@ -330,6 +335,7 @@ fn new_workers(
     ensures count { IfOk result (λ workers. vec_len workers ≡ worker_count terms.now.workers) }
     ensures lies { IfOk result
         (λ workers. AllLieBy (liar_at terms.now.liars keyring.now.party) workers.items) }
+    ensures shared { IfOk result (λ workers. kept.new ≡ shared (worker_count terms.now.workers) kept.old) }
     ensures memory { OnErr result (result ≡ Err Memory) }
 {
     let (count, liars) = (terms.workers.count(), terms.liar_of(keyring.replica()));
@@ -338,6 +344,40 @@ fn new_workers(
         workers.push_reserved(new_worker(alloc, keyring, kept, liars)?);
     }
     Ok(workers)
+}
+
+/// What is to stand under the lock of a replica that has made no step, and its workers.
+fn new_guarded<'a>(
+    alloc: Global,
+    keys: &PairKeys,
+    number: ReplicaId,
+    eye: Eye,
+    marks: &'a Marks,
+    terms: &Terms,
+) -> Result<(Guarded<'a>, Vec<WorkerStart>), Fault>
+    requires number { number < replicas keys.now.sizes }
+    requires words { marks.now.words ≡ replicas keys.now.sizes }
+    requires eye { eye ≡ first_eye marks.now number }
+    ensures kept { IfOk result (λ made.
+        made.0.kept ≡ shared (worker_count terms.now.workers) (fresh (keys_of_party keys.now number) eye)) }
+    ensures room { IfOk result (λ made. made.0.most_blocks ≡ unwrap_or terms.now.blocks (2 ^ 64 - 1)) }
+    ensures out { IfOk result (λ made. made.0.is_out ≡ false) }
+    ensures count { IfOk result (λ made. vec_len made.1 ≡ worker_count terms.now.workers) }
+    ensures lies { IfOk result
+        (λ made. AllLieBy (liar_at terms.now.liars number) made.1.items) }
+    ensures memory { OnErr result (result ≡ Err Memory) }
+{
+    let keyring = keys.replica_keyring(alloc, number)?.remembering(alloc)?;
+    let mut kept = new_kept(alloc, &keyring, eye, marks, terms.hasher)?;
+    let workers = new_workers(alloc, &keyring, &mut kept, terms)?;
+    let guarded = Guarded {
+        kept,
+        door: Doorkeeper::new(alloc, keys.config()),
+        most_blocks: terms.most_blocks(),
+        is_out: false,
+        questions: Questions::new(alloc, keys.config()),
+    };
+    Ok((guarded, workers))
 }
 
 /// The station of a replica that has made no step, and its workers.
@@ -356,20 +396,14 @@ fn build_station<'a>(
     ensures count { IfOk result (λ made. vec_len made.1 ≡ worker_count terms.now.workers) }
     ensures lies { IfOk result
         (λ made. AllLieBy (liar_at terms.now.liars number) made.1.items) }
+    ensures number { IfOk result (λ made. made.0.number ≡ number) }
+    ensures keep { IfOk result (λ made. made.0.keep ≡ keep terms.now keys.now.sizes) }
     ensures memory { OnErr result (result ≡ Err Memory) }
 {
-    let keyring = keys.replica_keyring(alloc, number)?.remembering(alloc)?;
-    let mut kept = new_kept(alloc, &keyring, eye, marks, terms.hasher)?;
-    let workers = new_workers(alloc, &keyring, &mut kept, terms)?;
+    let (guarded, workers) = new_guarded(alloc, keys, number, eye, marks, terms)?;
     let station = Station {
         number,
-        locked: Mutex::new(Guarded {
-            kept,
-            door: Doorkeeper::new(alloc, keys.config()),
-            most_blocks: terms.most_blocks(),
-            is_out: false,
-            questions: Questions::new(alloc, keys.config()),
-        }),
+        locked: Mutex::new(guarded),
         keep: terms.keep(keys.config()),
         shown: AtomicU64::new(0),
         ended: AtomicU64::new(0),
@@ -393,8 +427,12 @@ pub(crate) fn stations<'a>(
 ) -> Result<(Vec<Station<'a>>, Vec<Vec<WorkerStart>>), Fault>
     requires words { marks.now.words ≡ replicas keys.now.sizes }
     requires owners { owners.items ≡ map (first_eye marks.now) (range_with_len 0 marks.now.words) }
+    ensures numbers { IfOk result (λ made. numbers_of made.0.items ≡ range_with_len 0 (replicas keys.now.sizes)) }
+    ensures keep { IfOk result (λ made. AllKeep (keep terms.now keys.now.sizes) made.0.items) }
+    ensures count { IfOk result (λ made. vec_len made.0 ≡ replicas keys.now.sizes) }
     ensures workers { IfOk result
         (λ made. All (λ workers. vec_len workers ≡ worker_count terms.now.workers) made.1.items) }
+    ensures lies { IfOk result (λ made. LieFrom terms.now.liars 0 made.1.items) }
     ensures both { IfOk result (λ made. vec_len made.0 ≡ vec_len made.1) }
     ensures refused { OnErr result ((result ≡ Err Memory) ⊎ (result ≡ Err NoSuchParty)) }
 {

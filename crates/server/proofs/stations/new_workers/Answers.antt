@@ -1,8 +1,13 @@
-use Rattle.std.proofs.Common.{rules, arith, ◌≡◌, option_map}
+use Rattle.std.proofs.Common.{rules, arith, ◌≡◌, ap, sym, ◌∙◌, option_map}
 use Rattle.std.proofs.lemmas.List.Elements.{All-push}
 use Rattle.server.specs.declared.worker.WorkerStart.{WorkerStart}
+use Rattle.server.specs.Stations.{shared}
 use Rattle.server.specs.Workers.{lie_by, lie_of}
+use Rattle.server.proofs.Sharing.{shared_none, shared_more}
 use Rattle.server.proofs.stations.new_workers.Goals as goal
+
+pub loop-init : goal.loop-init
+loop-init c = (search rules, search rules, search rules, sym (shared_none _))
 
 pub loop-preserved : goal.loop-preserved
 loop-preserved c = (
@@ -11,4 +16,5 @@ loop-preserved c = (
       (All-push (λ (w : WorkerStart). lie_of w ≡ option_map lie_by c.liar_of-liars.result) _ _ c.loop.invariant.1
       c.in_ok-new_worker.ensures.lies),
   omega (arith, c.push_reserved.ensures.capacity, c.loop.invariant.2),
+  c.in_ok-new_worker.ensures.shared ∙ ap (shared 1) c.loop.invariant.3 ∙ shared_more c.loop.counter _,
 )

@@ -1,9 +1,13 @@
 use Rattle.std.proofs.Common.{◌≡◌, vec_len}
 use Rattle.std.specs.Prelude.{All}
+use Rattle.std.specs.List.{range_with_len}
 use Rattle.marks.proofs.Owners.{Owners}
-use Rattle.server.specs.Workers.{worker_count}
+use Rattle.server.specs.Keeping.{keep}
+use Rattle.server.specs.Stations.{AllKeep, numbers_of}
+use Rattle.server.specs.Workers.{LieFrom, worker_count}
 use Rattle.server.proofs.stations.stations.Given as goal
 
+-- as many stations as eyes were taken, each of its number and as the terms say
 abbrev pub invariant-loop-number : goal.invariant-loop-number
 invariant-loop-number l =
     (goal.iterator-loop-number).can_next l.number-iterator
@@ -11,3 +15,7 @@ invariant-loop-number l =
     × Owners l.marks l.number-iterator.count l.number-iterator.iter.rest.items
     × All (λ workers. vec_len workers ≡ worker_count l.terms.workers) l.workers.items
     × (vec_len l.stations ≡ vec_len l.workers)
+    × (vec_len l.workers ≡ l.number-iterator.count)
+    × (numbers_of l.stations.items ≡ range_with_len 0 l.number-iterator.count)
+    × AllKeep (keep l.terms l.keys.sizes) l.stations.items
+    × LieFrom l.terms.liars 0 l.workers.items
