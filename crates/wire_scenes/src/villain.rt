@@ -1,5 +1,7 @@
 //! What bad peers do at a replica's door and on its links, by plain sockets.
 
+ghost use Rattle.std.specs.Prelude.{◌≤◌};
+
 use crate::counts::numbered;
 use crate::stations::endpoint;
 use anyhow::{Context, Result, bail};
@@ -126,7 +128,9 @@ impl<R: AllocGlobal + Clock + Net<Stream = TcpStream>> Villain<'_, R> {
     }
 
     /// Asks in two pieces, cut at this place. Whether that is answered.
-    pub(crate) fn asks_in_two(&self, cut: usize) -> Result<bool> {
+    pub(crate) fn asks_in_two(&self, cut: usize) -> Result<bool>
+        requires { cut ≤ 100 }
+    {
         let visit = self.visit(&self.itself()?)?;
         visit.stream.set_nodelay(true)?;
         let (first, second) = (&visit.ask[..cut], &visit.ask[cut..]);
@@ -138,7 +142,9 @@ impl<R: AllocGlobal + Clock + Net<Stream = TcpStream>> Villain<'_, R> {
     }
 
     /// Asks only up to this place, and says no more. Whether that is closed.
-    pub(crate) fn asks_in_part(&self, cut: usize) -> Result<bool> {
+    pub(crate) fn asks_in_part(&self, cut: usize) -> Result<bool>
+        requires { cut ≤ 100 }
+    {
         let visit = self.visit(&self.itself()?)?;
         (&mut &visit.stream).write_all(&visit.ask[..cut])?;
         visit.stream.shutdown(Shutdown::Write)?;
