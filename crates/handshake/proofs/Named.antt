@@ -37,7 +37,7 @@ named_by : (e : Endpoint) (greeted : Bytes) (a : Ask) (tag key : Bytes) (peer : 
     → (b ≡ true → tag ≡ hmac key (ask_text greeted a)) → (c ≡ true → a.sizes ≡ sizes_digest e.sizes)
     → link_key e.keys a.dialler e.party ≡ Some key → a.acceptor ≡ e.party
     → (let r : Result (Peer × Bytes) Refusal = (if b then (if c then Ok (asker a, answer_bytes key greeted a e.life)
-    else Err OtherSizes) else Err BadTag) in r) ≡ Ok (peer, answer)
+    else Err (OtherSizes a.dialler)) else Err BadTag) in r) ≡ Ok (peer, answer)
     → Named e greeted a tag peer answer
 named_by e greeted a tag key peer answer true true right sizes held mine h =
     let told : Peer × Bytes = (asker a, answer_bytes key greeted a e.life) in
@@ -109,9 +109,9 @@ passes e greeted a tag key held mine right sizes =
     else Err NotMine) in r) (eq-eqb a.acceptor e.party mine)
     ∙ (ap (λ (k : Option Bytes). admitted_by k e greeted a tag) held
     ∙ (ap (λ (b : Bool). let r : Answer = (if b
-    then (if bytes_eq a.sizes (sizes_digest e.sizes) then done else Err OtherSizes) else Err BadTag) in r)
+    then (if bytes_eq a.sizes (sizes_digest e.sizes) then done else Err (OtherSizes a.dialler)) else Err BadTag) in r)
     ((bytes_eq-Decides tag (hmac key (ask_text greeted a))).1 right)
-    ∙ ap (λ (b : Bool). let r : Answer = (if b then done else Err OtherSizes) in r)
+    ∙ ap (λ (b : Bool). let r : Answer = (if b then done else Err (OtherSizes a.dialler)) in r)
     ((bytes_eq-Decides a.sizes (sizes_digest e.sizes)).1 sizes)))
 
 pub only_named : (e : Endpoint) (greeted bytes : Bytes) (peer : Peer) (answer : Bytes) → e.party < 2 ^ 16

@@ -79,7 +79,7 @@ abbrev pub admitted_by : Option Bytes → Endpoint → (greeted : Bytes) → Ask
 admitted_by (Some key) e greeted a tag =
     if bytes_eq tag (hmac key (ask_text greeted a))
     then (if bytes_eq a.sizes (sizes_digest e.sizes) then Ok (asker a, answer_bytes key greeted a e.life)
-    else Err OtherSizes)
+    else Err (OtherSizes a.dialler))
     else Err BadTag
 admitted_by None e greeted a tag = Err NotAParty
 

@@ -115,7 +115,7 @@ impl Endpoint {
             return Err(Refusal::BadTag);
         }
         if ask.sizes != sizes_digest(&self.config) {
-            return Err(Refusal::OtherSizes);
+            return Err(Refusal::OtherSizes(ask.dialler));
         }
         let peer = Peer::new(ask.dialler, ask.life, ask.nonce);
         let answer = answer_bytes(&key, greeted, &ask, self.life);

@@ -1,3 +1,4 @@
+use ids::PartyId;
 use std::error::Error;
 use std::fmt;
 
@@ -12,8 +13,8 @@ pub enum Refusal {
     NotAParty,
     /// The tag isn't that of what is said, under the key of the two.
     BadTag,
-    /// Who holds the key asks at other sizes.
-    OtherSizes,
+    /// This party asks at other sizes. It holds the key.
+    OtherSizes(PartyId),
 }
 
 impl fmt::Display for Refusal {
@@ -23,7 +24,7 @@ impl fmt::Display for Refusal {
             Refusal::NotMine => "for another party",
             Refusal::NotAParty => "no such party may dial",
             Refusal::BadTag => "bad tag",
-            Refusal::OtherSizes => "other sizes",
+            Refusal::OtherSizes(_) => "other sizes",
         })
     }
 }

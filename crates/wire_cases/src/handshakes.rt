@@ -27,7 +27,7 @@ fn letter(refusal: Refusal) -> char {
         Refusal::NotMine => 'M',
         Refusal::NotAParty => 'P',
         Refusal::BadTag => 'T',
-        Refusal::OtherSizes => 'S',
+        Refusal::OtherSizes(_) => 'S',
     }
 }
 

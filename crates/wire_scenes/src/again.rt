@@ -96,16 +96,15 @@ where
 /// The two in their second lives. The replica hears all from the second part on, the front from the third.
 fn comers<R>(rt: &R, places: &Places) -> Result<Vec<Station>>
 where
-    R: AllocGlobal + Net<Listener = TcpListener, Stream = TcpStream>,
+    R: AllocGlobal + Clock + Net<Listener = TcpListener, Stream = TcpStream>,
 {
-    let alloc = rt.alloc();
     let at = places
         .of_party(REPLICA)
         .context("a replica without a place")?;
     let listener = TcpListener::bind(rt, at)?;
-    let mut coming = Vec::new(alloc);
-    coming.push(Station::new(alloc, REPLICA, places, Some(listener), PART)?)?;
-    coming.push(Station::new(alloc, FRONT, places, None, 2 * PART)?)?;
+    let mut coming = Vec::new(rt.alloc());
+    coming.push(Station::new(rt, REPLICA, places, Some(listener), PART)?)?;
+    coming.push(Station::new(rt, FRONT, places, None, 2 * PART)?)?;
     Ok(coming)
 }
 

@@ -7,6 +7,7 @@ mod siege;
 mod stations;
 mod usual;
 mod villain;
+mod warned;
 
 use anyhow::Result;
 

@@ -5,6 +5,7 @@ use crate::counts::Count;
 use crate::stations::{Station, all_heard};
 use crate::usual::all_stations;
 use crate::villain::{Villain, is_closed};
+use crate::warned::warnings_of;
 use anyhow::{Context, Result};
 use bytes::Bytes;
 use ids::PartyId;
@@ -71,11 +72,30 @@ where
 {
     println!(rt; "another's number: closed {}", villain.takes_a_number()?)?;
     let closed = villain.has_other_sizes()?;
+    let known = victim.wires().other_sizes(rt);
     println!(rt;
-        "other sizes: closed {closed}, counted {}",
-        victim.wires().other_sizes()
+        "other sizes: closed {closed}, counted {}, warned {}",
+        known.asks,
+        warnings_of(rt.alloc(), &known)
     )?;
     println!(rt; "a byte now and then: closed {}", villain.trickles()?)?;
+    Ok(())
+}
+
+/// What comes of an ask that is cut at each place.
+fn cut_asks<R>(rt: &R, villain: &Villain<'_, R>) -> Result<()>
+where
+    R: Wait + Clock + AllocGlobal + Print + Net<Listener = TcpListener, Stream = TcpStream>,
+{
+    let mut answered = 0u32;
+    let mut closed = 0u32;
+    for cut in 0..100 {
+        answered = answered.saturating_add(u32::from(villain.asks_in_two(cut)?));
+        closed = closed.saturating_add(u32::from(villain.asks_in_part(cut)?));
+    }
+    println!(rt;
+        "an ask that is cut: in two, answered {answered} of 100 times; short, closed {closed} of 100 times"
+    )?;
     Ok(())
 }
 
@@ -96,8 +116,24 @@ where
     Ok(())
 }
 
+/// What comes of its own next frames, soon behind a length that is none, and a while later.
+fn comes_again<R>(rt: &R, villain: &Villain<'_, R>, count: &Count) -> Result<()>
+where
+    R: Wait + Clock + AllocGlobal + Print + Net<Listener = TcpListener, Stream = TcpStream>,
+{
+    let soon = villain.comes_again()?;
+    let closed = is_closed(&soon.stream)?;
+    println!(rt; "soon again: closed {closed}, heard {}", count.next())?;
+    thread::sleep(rt, Duration::from_millis(2500));
+    let _later = villain.comes_again()?;
+    println!(rt; "a while later: came {}", wait_for(rt, count, 6))?;
+    let _slow = villain.sends_by_bytes()?;
+    println!(rt; "a byte at a time: came {}", wait_for(rt, count, 7))?;
+    Ok(())
+}
+
 /// What comes of streams that are none.
-fn false_streams<R>(rt: &R, villain: &Villain<'_, R>) -> Result<()>
+fn false_streams<R>(rt: &R, villain: &Villain<'_, R>, count: &Count) -> Result<()>
 where
     R: Wait + Clock + AllocGlobal + Print + Net<Listener = TcpListener, Stream = TcpStream>,
 {
@@ -105,6 +141,7 @@ where
         "a length that is none: closed {}",
         villain.tells_no_length()?
     )?;
+    comes_again(rt, villain, count)?;
     println!(rt;
         "half a frame and silence: closed {}",
         villain.sends_a_half()?
@@ -174,8 +211,9 @@ where
     let villain = Villain { rt, at };
     let count = victim.count(VILLAIN).context("no such peer")?;
     false_asks(rt, &villain, victim)?;
+    cut_asks(rt, &villain)?;
     old_words(rt, &villain, count)?;
-    false_streams(rt, &villain)?;
+    false_streams(rt, &villain, count)?;
     crowds(rt, &villain)?;
     floods(rt, &villain, victim, count)?;
     never_reads(rt, &villain, victim)

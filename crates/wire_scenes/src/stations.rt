@@ -42,6 +42,7 @@ fn pace() -> Pace {
         stuck: Duration::from_millis(2000),
         redial: Duration::from_millis(10),
         most_redial: Duration::from_millis(100),
+        bar: Duration::from_millis(2000),
         places: 32,
     }
 }
@@ -137,17 +138,18 @@ fn terms_of(alloc: Global, peers: &[PartyId], places: &Places) -> Result<Vec<Pee
 
 impl Station {
     /// A party with its listener, if it has one. Of each peer it hears the frames from this number on.
-    pub(crate) fn new(
-        alloc: Global,
+    pub(crate) fn new<R: AllocGlobal + Clock>(
+        rt: &R,
         party: PartyId,
         places: &Places,
         listener: Option<TcpListener>,
         first: u64,
     ) -> Result<Station> {
+        let alloc = rt.alloc();
         let peers = peers_of(alloc, party)?;
         let terms = terms_of(alloc, &peers, places)?;
         let endpoint = endpoint(alloc, party, 2, 0)?;
-        let wires = Wires::new(alloc, endpoint, pace(), &terms, listener.as_ref())?;
+        let wires = Wires::new(rt, endpoint, pace(), &terms, listener.as_ref())?;
         let mut counts = Vec::new(alloc);
         for _ in peers.iter() {
             counts.push(Count::from(first))?;

@@ -15,7 +15,7 @@ const COUNT: u64 = 1000;
 /// All stations, each with its listener.
 pub(crate) fn all_stations<R>(rt: &R) -> Result<(Vec<Station>, Places)>
 where
-    R: AllocGlobal + Net<Listener = TcpListener, Stream = TcpStream>,
+    R: AllocGlobal + Clock + Net<Listener = TcpListener, Stream = TcpStream>,
 {
     let listeners = listeners(rt)?;
     let places = Places::of(&listeners)?;
@@ -23,7 +23,7 @@ where
     let mut stations = Vec::new(rt.alloc());
     for party in PARTIES {
         let listener = listeners.next();
-        stations.push(Station::new(rt.alloc(), party, &places, listener, 0)?)?;
+        stations.push(Station::new(rt, party, &places, listener, 0)?)?;
     }
     Ok((stations, places))
 }

@@ -1,13 +1,15 @@
 //! What bad peers do at a replica's door and on its links, by plain sockets.
 
+ghost use Rattle.std.specs.Prelude.{◌≤◌};
+
 use crate::counts::numbered;
 use crate::stations::endpoint;
 use anyhow::{Context, Result, bail};
-use handshake::{Endpoint, GreetingBytes, Nonce};
+use handshake::{AskBytes, Endpoint, GreetingBytes, Nonce};
 use ids::{Config, PartyId};
 use std::alloc::Global;
 use std::io::{ErrorKind, Read, Write};
-use std::net::{Net, SocketAddr, TcpStream};
+use std::net::{Net, Shutdown, SocketAddr, TcpStream};
 use std::thread;
 use std::time::{Clock, Duration};
 use wire_frames::put;
@@ -24,11 +26,11 @@ pub(crate) struct Villain<'a, R> {
     pub(crate) at: SocketAddr,
 }
 
-/// A connection, and what was said and asked on it.
+/// A connection, and the ask that is right on it.
 #[derive(Drop)]
 pub(crate) struct Visit {
     pub(crate) stream: TcpStream,
-    pub(crate) ask: [u8; 100],
+    pub(crate) ask: AskBytes,
 }
 
 /// Whether the other end closes a connection before a read has to wait for ten seconds.
@@ -61,20 +63,31 @@ impl<R: AllocGlobal + Clock + Net<Stream = TcpStream>> Villain<'_, R> {
         Ok((stream, greeting))
     }
 
-    /// A connection on which this endpoint asked.
-    fn asked(&self, endpoint: &Endpoint) -> Result<Visit> {
+    /// A connection on which this endpoint may ask.
+    fn visit(&self, endpoint: &Endpoint) -> Result<Visit> {
         let (stream, greeting) = self.greeted()?;
         let Ok(dialling) = endpoint.dial(VICTIM, &greeting, Nonce([7; 16])) else {
             bail!("no key");
         };
         let ask = dialling.ask();
-        (&mut &stream).write_all(&ask)?;
         Ok(Visit { stream, ask })
+    }
+
+    /// One on which it asked.
+    fn asked(&self, endpoint: &Endpoint) -> Result<Visit> {
+        let visit = self.visit(endpoint)?;
+        (&mut &visit.stream).write_all(&visit.ask)?;
+        Ok(visit)
+    }
+
+    /// The party that it is, with its own keys, at the right sizes.
+    fn itself(&self) -> Result<Endpoint> {
+        endpoint(self.alloc(), VILLAIN, 2, 0)
     }
 
     /// A link as the party that it is.
     pub(crate) fn link(&self) -> Result<Visit> {
-        let visit = self.asked(&endpoint(self.alloc(), VILLAIN, 2, 0)?)?;
+        let visit = self.asked(&self.itself()?)?;
         let mut answer = [0; 48];
         (&mut &visit.stream).read_exact(&mut answer)?;
         Ok(visit)
@@ -114,6 +127,30 @@ impl<R: AllocGlobal + Clock + Net<Stream = TcpStream>> Villain<'_, R> {
         is_closed(&stream)
     }
 
+    /// Asks in two pieces, cut at this place. Whether that is answered.
+    pub(crate) fn asks_in_two(&self, cut: usize) -> Result<bool>
+        requires { cut ≤ 100 }
+    {
+        let visit = self.visit(&self.itself()?)?;
+        visit.stream.set_nodelay(true)?;
+        let (first, second) = (&visit.ask[..cut], &visit.ask[cut..]);
+        (&mut &visit.stream).write_all(first)?;
+        thread::sleep(self.rt, Duration::from_millis(5));
+        (&mut &visit.stream).write_all(second)?;
+        let mut answer = [0; 48];
+        Ok((&mut &visit.stream).read_exact(&mut answer).is_ok())
+    }
+
+    /// Asks only up to this place, and says no more. Whether that is closed.
+    pub(crate) fn asks_in_part(&self, cut: usize) -> Result<bool>
+        requires { cut ≤ 100 }
+    {
+        let visit = self.visit(&self.itself()?)?;
+        (&mut &visit.stream).write_all(&visit.ask[..cut])?;
+        visit.stream.shutdown(Shutdown::Write)?;
+        is_closed(&visit.stream)
+    }
+
     /// Says a byte of its ask now and then.
     pub(crate) fn trickles(&self) -> Result<bool> {
         let (stream, _greeting) = self.greeted()?;
@@ -131,6 +168,24 @@ impl<R: AllocGlobal + Clock + Net<Stream = TcpStream>> Villain<'_, R> {
         let visit = self.link()?;
         (&mut &visit.stream).write_all(&[255; 4])?;
         is_closed(&visit.stream)
+    }
+
+    /// Has a link, and sends its next frames.
+    pub(crate) fn comes_again(&self) -> Result<Visit> {
+        let visit = self.link()?;
+        let _ = (&mut &visit.stream).write_all(&self.frames(3, 6)?);
+        Ok(visit)
+    }
+
+    /// Has a link, and sends its next frame a byte at a time.
+    pub(crate) fn sends_by_bytes(&self) -> Result<Visit> {
+        let visit = self.link()?;
+        visit.stream.set_nodelay(true)?;
+        for byte in self.frames(6, 7)? {
+            (&mut &visit.stream).write_all(&[byte])?;
+            thread::sleep(self.rt, Duration::from_millis(50));
+        }
+        Ok(visit)
     }
 
     /// Sends half a frame, and falls silent.
@@ -154,7 +209,7 @@ impl<R: AllocGlobal + Clock + Net<Stream = TcpStream>> Villain<'_, R> {
         visit
             .stream
             .set_write_timeout(Some(Duration::from_millis(300)))?;
-        let piece = self.frames(3, 1003)?;
+        let piece = self.frames(7, 1007)?;
         let mut moved: u64 = 0;
         for _ in 0..1000 {
             match (&mut &visit.stream).write(&piece) {

@@ -1,3 +1,5 @@
+pub mod Barring
+pub mod Telling
 pub mod Receiving
 pub mod Writing
 pub mod Meeting

@@ -46,11 +46,12 @@ where
     R: Wait + Clock + AllocGlobal + RandomSource + Net<Stream = TcpStream>,
 {
     for _ in rt.forever() {
-        if !slot.pause(rt, backoff.pause()) {
+        let barred = slot.barred_for(rt, wires.millis(rt));
+        if !slot.pause(rt, backoff.pause().max(barred)) {
             break;
         }
         if let Some((peer, stream)) = dial(rt, wires, slot, address) {
-            if slot.enter(rt, rt.alloc(), &wires.pace, peer, stream) {
+            if slot.enter(rt, wires, peer, stream) {
                 return slot.next_link(rt, number);
             }
         }
@@ -102,7 +103,7 @@ where
         let began = Instant::now(rt).ok();
         let mut reader = Counted::new(&link.stream);
         let (alloc, config) = (rt.alloc(), wires.config());
-        let _end = receive(
+        let end = receive(
             rt,
             alloc,
             config,
@@ -111,6 +112,7 @@ where
             &mut rows,
             &link.is_over,
         );
+        slot.note_end(rt, end, wires.millis(rt));
         slot.leave(rt, &link);
         backoff.ended(since(rt, began));
     }

@@ -92,12 +92,12 @@ impl Guest {
     }
 
     /// Who it is, and answers it.
-    fn judge(self, wires: &Wires) -> Look {
+    fn judge<R: Wait>(self, rt: &R, wires: &Wires) -> Look {
         match wires.endpoint.admit(self.nonce, &self.ask) {
             Ok(named) => answer(named, self.stream),
             Err(refusal) => {
-                if refusal == Refusal::OtherSizes {
-                    wires.count_other_sizes();
+                if let Refusal::OtherSizes(peer) = refusal {
+                    wires.note_other_sizes(rt, peer);
                 }
                 Look::Goes
             }
@@ -105,13 +105,13 @@ impl Guest {
     }
 
     /// Looks at it once.
-    fn look(mut self, wires: &Wires, now: Instant) -> Look {
+    fn look<R: Wait>(mut self, rt: &R, wires: &Wires, now: Instant) -> Look {
         if now >= self.until {
             return Look::Goes;
         }
         match self.hear() {
             Heard::Part => Look::Waits(self),
-            Heard::Whole => self.judge(wires),
+            Heard::Whole => self.judge(rt, wires),
             Heard::End => Look::Goes,
         }
     }
@@ -189,7 +189,7 @@ impl Guests {
             let Some(guest) = self.guests.pop_front() else {
                 break;
             };
-            match guest.look(wires, now) {
+            match guest.look(rt, wires, now) {
                 Look::Waits(guest) => {
                     let _ = self.guests.push_back(guest);
                 }
@@ -205,9 +205,14 @@ impl Guests {
 }
 
 /// Puts a peer in its place. False where it has none.
-fn come_in<R: Wait + AllocGlobal>(rt: &R, wires: &Wires, peer: Peer, stream: TcpStream) -> bool {
+fn come_in<R: Wait + Clock + AllocGlobal>(
+    rt: &R,
+    wires: &Wires,
+    peer: Peer,
+    stream: TcpStream,
+) -> bool {
     match wires.slot(peer.party()) {
-        Some(slot) => slot.enter(rt, rt.alloc(), &wires.pace, peer, stream),
+        Some(slot) => slot.enter(rt, wires, peer, stream),
         None => false,
     }
 }

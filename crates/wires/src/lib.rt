@@ -12,23 +12,27 @@
 //! | the door | the listener, while nobody is at a handshake; else a pause. Its guests' sockets never wait |
 //! | who sends | a peer's lock |
 //!
-//! A peer's lock is held for one call, and who holds it waits for nothing: no socket, no room, no second lock. A row gets
-//! room by whoever takes its frames out, who waits for no socket: what it sends lies in an outbox or is lost. So there is
+//! A lock is held for one call, and who holds it waits for nothing: no socket, no room, no second lock. A row gets room
+//! by whoever takes its frames out, who waits for no socket: what it sends lies in an outbox or is lost. So there is
 //! no circle within a process. Between two processes a full row holds up the other end's writer; that one gives the
 //! connection up after a while, and waits for nobody meanwhile whom its own reader needs.
 #![tactic(auto)]
 
 mod arrivals;
 mod backoff;
+mod bar;
+mod beginning;
 mod calling;
 mod door;
 mod end;
 mod link;
 mod meeting;
+mod other_sizes;
 mod pace;
 mod receiving;
 mod running;
 mod sending;
+mod size_warning;
 mod slot;
 mod timed;
 mod wires;
@@ -36,9 +40,11 @@ mod writing;
 
 pub use arrivals::Arrivals;
 pub use end::End;
+pub use other_sizes::OtherSizes;
 pub use pace::Pace;
 pub use receiving::receive;
 pub use running::run;
+pub use size_warning::SizeWarning;
 pub use slot::PeerTerms;
 pub use wires::{NotSent, Wires};
 pub use writing::write_frames;

@@ -1,7 +1,7 @@
 use std::time::Duration;
 use tuning::{
-    HANDSHAKE_MILLIS, MOST_REDIAL_MILLIS, PING_MILLIS, REDIAL_MILLIS, SILENCE_MILLIS, STUCK_MILLIS,
-    WIRE_PLACES,
+    BAR_MILLIS, HANDSHAKE_MILLIS, MOST_REDIAL_MILLIS, PING_MILLIS, REDIAL_MILLIS, SILENCE_MILLIS,
+    STUCK_MILLIS, WIRE_PLACES,
 };
 
 /// How long one end of a link waits for the other, and how many may wait at its door.
@@ -19,6 +19,8 @@ pub struct Pace {
     pub redial: Duration,
     /// How long it is at most. A link that lasted so long was no failure.
     pub most_redial: Duration,
+    /// How long a peer stays out that told a length that no frame has, the first time. It doubles (`MOST_DOUBLINGS`).
+    pub bar: Duration,
     /// How many connections of one named address, and of all strangers, may be at their handshakes.
     pub places: usize,
 }
@@ -33,6 +35,7 @@ impl Pace {
             stuck: Duration::from_millis(STUCK_MILLIS),
             redial: Duration::from_millis(REDIAL_MILLIS),
             most_redial: Duration::from_millis(MOST_REDIAL_MILLIS),
+            bar: Duration::from_millis(BAR_MILLIS),
             places: WIRE_PLACES,
         }
     }

@@ -1,7 +1,15 @@
 //! What there is of one peer: the frames that wait for it, and its connection.
 
+ghost use Rattle.std.specs.Prelude.{◌≡◌, ◌&&◌, ◌++◌, [], ◌∷◌, IfSome, OnOk, OnErr, MatchBool, Some, None, nat_eq, nat_lt, not, true};
+ghost use Rattle.std.specs.Arc.{arc_value};
+ghost use Rattle.std.specs.Option.{ForSome};
+ghost use Rattle.outbox.specs.Waiting.{counted};
+ghost use Rattle.wires.specs.Barring.{bar_after};
+
+use crate::bar::Bar;
+use crate::end::End;
 use crate::link::{Link, settle};
-use crate::pace::Pace;
+use crate::wires::Wires;
 use bytes::Bytes;
 use handshake::Peer;
 use ids::PartyId;
@@ -23,16 +31,22 @@ pub struct PeerTerms {
     pub is_kept: bool,
 }
 
-/// What lies under a slot's lock.
+/// What lies under a slot's lock. Its link, if it has one, is one of the party that it is kept for, and the latest one.
+/// Once all is told to end there is none.
 #[derive(Drop)]
 struct Inside {
+    party: PartyId,
     outbox: Outbox,
     link: Option<Arc<Link>>,
+    bar: Bar,
     /// How many links there were.
     links: u64,
     is_over: bool,
     /// Whether the writer sleeps, and nobody has rung for it since.
     writer_sleeps: bool,
+    ghost own: { ForSome link (λ link. (arc_value link).peer.party ≡ party) },
+    ghost latest: { ForSome link (λ link. (arc_value link).number ≡ links) },
+    ghost ended: { is_over ≡ true → link ≡ None },
 }
 
 /// A place for one peer. Threads share it by reference: a reader, a writer, who sends, and who lets connections in.
@@ -53,7 +67,9 @@ impl Inside {
     }
 
     /// The present link, if it is a later one than that.
-    fn later_link(&self, number: u64) -> Option<Arc<Link>> {
+    fn later_link(&self, number: u64) -> Option<Arc<Link>>
+        ensures { IfSome result (λ link. (arc_value link).peer.party ≡ self.now.party) }
+    {
         let link = self.link.as_ref()?;
         if link.number <= number {
             return None;
@@ -62,16 +78,65 @@ impl Inside {
     }
 
     /// Ends the present link, if there is one.
-    fn drop_link(&mut self) {
+    fn drop_link(&mut self)
+        ensures gone { self.new.link ≡ None }
+        ensures outbox { self.new.outbox ≡ self.old.outbox }
+        ensures bar { self.new.bar ≡ self.old.bar }
+        ensures party { self.new.party ≡ self.old.party }
+        ensures over { self.new.is_over ≡ self.old.is_over }
+    {
         if let Some(link) = self.link.take() {
             link.end();
         }
     }
+
+    /// The frame waits, or is lost and counted. Whether the writer is to be woken.
+    fn put(&mut self, frame: Bytes) -> Result<bool, Refusal>
+        ensures kept { OnOk result (self.new.outbox
+            ≡ record self.old.outbox { frames = self.old.outbox.frames ++ frame ∷ [] }) }
+        ensures lost { OnErr result (self.new.outbox
+            ≡ record self.old.outbox { lost = counted self.old.outbox.lost 1 }) }
+    {
+        self.outbox.put(frame)?;
+        let wakes = self.writer_sleeps && self.link.is_some();
+        if wakes {
+            self.writer_sleeps = false;
+        }
+        Ok(wakes)
+    }
+
+    /// A connection is the link now, and a former one ends. False, and nothing changes, where all is told to end, where
+    /// the connection is another party's, and while the party stays out.
+    fn take_link(&mut self, link: Arc<Link>, now: u64) -> bool
+        ensures is { result ≡ (not self.old.is_over && nat_eq (arc_value link).peer.party self.old.party
+            && not (nat_lt now self.old.bar.until)) }
+        ensures taken { MatchBool result (self.new.link ≡ Some link) (self.new ≡ self.old) }
+        ensures outbox { MatchBool result (self.new.outbox ≡ record self.old.outbox { is_open = true })
+            (self.new.outbox ≡ self.old.outbox) }
+        ensures bar { self.new.bar ≡ self.old.bar }
+    {
+        if self.is_over || link.peer.party() != self.party || self.bar.is_on(now) {
+            return false;
+        }
+        self.drop_link();
+        self.links = link.number;
+        self.outbox.reopen();
+        self.link = Some(link);
+        true
+    }
+
+    /// A connection of the party ended so, at this moment.
+    fn note_end(&mut self, end: End, now: u64)
+        ensures { self.new ≡ record self.old { bar = bar_after self.old.bar end now } }
+    {
+        self.bar = self.bar.after(end, now);
+    }
 }
 
 impl Slot {
-    /// A place for this peer, who isn't there yet.
-    pub(crate) fn new(alloc: Global, terms: PeerTerms) -> Slot {
+    /// A place for this peer, who isn't there yet. It stays out for so many milliseconds where it tells a length that no
+    /// frame has, the first time.
+    pub(crate) fn new(alloc: Global, terms: PeerTerms, bar: u64) -> Slot {
         let mut outbox = Outbox::new(alloc, terms.backlog);
         if !terms.is_kept {
             outbox.close();
@@ -79,8 +144,10 @@ impl Slot {
         Slot {
             terms,
             inside: Mutex::new(Inside {
+                party: terms.party,
                 outbox,
                 link: None,
+                bar: Bar::none(bar),
                 links: 0,
                 is_over: false,
                 writer_sleeps: false,
@@ -97,13 +164,7 @@ impl Slot {
 
     /// A frame waits for the peer, or is lost. It waits for nobody but those that use this slot just then.
     pub(crate) fn put<R: Wait>(&self, rt: &R, frame: Bytes) -> Result<(), Refusal> {
-        let mut inside = self.inside.lock(rt);
-        inside.outbox.put(frame)?;
-        let wakes = inside.writer_sleeps && inside.link.is_some();
-        if wakes {
-            inside.writer_sleeps = false;
-        }
-        drop(inside);
+        let wakes = self.inside.lock(rt).put(frame)?;
         if wakes {
             self.to_write.notify_one();
         }
@@ -121,32 +182,38 @@ impl Slot {
     }
 
     /// A handshake named this peer: the connection is its link now, and a former one ends. False where that can't be.
-    pub(crate) fn enter<R: Wait>(
+    pub(crate) fn enter<R: Wait + Clock + AllocGlobal>(
         &self,
         rt: &R,
-        alloc: Global,
-        pace: &Pace,
+        wires: &Wires,
         peer: Peer,
         stream: TcpStream,
     ) -> bool {
-        if !settle(&stream, pace) {
+        if !settle(&stream, &wires.pace) {
             return false;
         }
+        let now = wires.millis(rt);
         let mut inside = self.inside.lock(rt);
         let number = inside.links.saturating_add(1);
-        let Ok(link) = Arc::new(alloc, Link::new(number, peer, stream)) else {
+        let Ok(link) = Arc::new(rt.alloc(), Link::new(number, peer, stream)) else {
             return false;
         };
-        if inside.is_over {
-            return false;
-        }
-        inside.drop_link();
-        inside.links = number;
-        inside.link = Some(link);
-        inside.outbox.reopen();
+        let is_in = inside.take_link(link, now);
         drop(inside);
-        self.ring();
-        true
+        if is_in {
+            self.ring();
+        }
+        is_in
+    }
+
+    /// A connection of the peer ended so, at this moment.
+    pub(crate) fn note_end<R: Wait>(&self, rt: &R, end: End, now: u64) {
+        self.inside.lock(rt).note_end(end, now);
+    }
+
+    /// For how long the peer stays out yet.
+    pub(crate) fn barred_for<R: Wait>(&self, rt: &R, now: u64) -> Duration {
+        Duration::from_millis(self.inside.lock(rt).bar.left(now))
     }
 
     /// A link has ended. Where it is the present one, there is none.
@@ -171,8 +238,8 @@ impl Slot {
     /// Ends the peer's threads, and its link.
     pub(crate) fn close<R: Wait>(&self, rt: &R) {
         let mut inside = self.inside.lock(rt);
-        inside.is_over = true;
         inside.drop_link();
+        inside.is_over = true;
         drop(inside);
         self.ring();
     }

@@ -1,17 +1,19 @@
 //! All links of one party.
 
+use crate::beginning::{Beginning, millis_of};
+use crate::other_sizes::OtherSizes;
 use crate::pace::Pace;
 use crate::slot::{PeerTerms, Slot};
 use bytes::Bytes;
 use handshake::{Endpoint, Nonce};
 use ids::{Config, Fault, PartyId};
-use std::alloc::Global;
 use std::net::{Shutdown, TcpListener, TcpStream};
 use std::os::fd::OwnedFd;
 use std::random::RandomSource;
-use std::sync::Wait;
+use std::sync::atomic::AtomicBool;
 use std::sync::atomic::Ordering::SeqCst;
-use std::sync::atomic::{AtomicBool, AtomicU64};
+use std::sync::{Mutex, Wait};
+use std::time::Clock;
 use wire_frames::longest_frame;
 
 /// Why a frame isn't on its way.
@@ -34,7 +36,8 @@ pub struct Wires {
     /// A second handle of the listener's socket, if there is one. To shut that down wakes who waits for a connection.
     door: Option<TcpStream>,
     is_over: AtomicBool,
-    other_sizes: AtomicU64,
+    began: Beginning,
+    other_sizes: Mutex<OtherSizes>,
 }
 
 /// A nonce that nobody can tell before.
@@ -59,17 +62,18 @@ impl Wires {
     /// The links of a party to these peers, none of which is there yet. Where it is dialled it has a listener.
     ///
     /// `Memory` where memory was refused, `AcceptFailed` where the listener can't be had twice.
-    pub fn new(
-        alloc: Global,
+    pub fn new<R: AllocGlobal + Clock>(
+        rt: &R,
         endpoint: Endpoint,
         pace: Pace,
         peers: &[PeerTerms],
         listener: Option<&TcpListener>,
     ) -> Result<Wires, Fault> {
         let door = door_of(listener)?;
-        let mut slots = Vec::new(alloc);
+        let bar = millis_of(pace.bar);
+        let mut slots = Vec::new(rt.alloc());
         for terms in peers {
-            slots.push(Slot::new(alloc, *terms))?;
+            slots.push(Slot::new(rt.alloc(), *terms, bar))?;
         }
         Ok(Wires {
             endpoint,
@@ -77,7 +81,8 @@ impl Wires {
             slots,
             door,
             is_over: AtomicBool::new(false),
-            other_sizes: AtomicU64::new(0),
+            began: Beginning::new(rt),
+            other_sizes: Mutex::new(OtherSizes::none()),
         })
     }
 
@@ -111,14 +116,19 @@ impl Wires {
         self.slot(to).is_some_and(|slot| slot.is_linked(rt))
     }
 
-    /// How many asked at other sizes that hold the key of a peer.
-    pub fn other_sizes(&self) -> u64 {
-        self.other_sizes.load(SeqCst)
+    /// Now, in milliseconds since the links were made.
+    pub(crate) fn millis<R: Clock>(&self, rt: &R) -> u64 {
+        self.began.millis(rt)
     }
 
-    /// One more did.
-    pub(crate) fn count_other_sizes(&self) {
-        self.other_sizes.fetch_add(1, SeqCst);
+    /// Which peers asked at other sizes by now ([`SizeWarning`](crate::SizeWarning) tells of it).
+    pub fn other_sizes<R: Wait>(&self, rt: &R) -> OtherSizes {
+        *self.other_sizes.lock(rt)
+    }
+
+    /// This one did.
+    pub(crate) fn note_other_sizes<R: Wait>(&self, rt: &R, peer: PartyId) {
+        self.other_sizes.lock(rt).note(peer);
     }
 
     /// Whether all is told to end.
