@@ -49,7 +49,7 @@ impl PassedOver {
         if !self.is_asked.swap(false, SeqCst) {
             return None;
         }
-        let doubt = doubt_in(keyring, bytes)?;
+        let doubt = doubt_in(keyring, bytes).filter(|doubt| doubt.wrong.len() > 0)?;
         self.passing.lock(rt).find(doubt.wrong);
         self.are_any.store(true, SeqCst);
         Some(doubt)
