@@ -5,6 +5,7 @@
 #![tactic(auto)]
 
 mod asking;
+mod catching_up;
 mod clients;
 mod clocks;
 mod links;
@@ -15,6 +16,10 @@ mod wires;
 pub use asking::{
     MOST_ASKED_FOR, MOST_COPY_BYTES, MOST_TIMES_ASKED, QUESTION_PACE, QUESTION_PACE_MILLIS,
     QUESTION_PAUSE_MILLIS,
+};
+pub use catching_up::{
+    ANSWER_PAUSE_MILLIS, AWAY_HEIGHTS, CATCH_UP_BYTES, CATCH_UP_PAUSE_MILLIS, CATCH_UP_TURN_MILLIS,
+    MOST_CATCH_UP_BYTES, MOST_CATCH_UP_PAUSE_MILLIS,
 };
 pub use clients::{
     BAR_MILLIS, CLIENT_CROWD, CLIENT_HELD_MILLIS, CLOSED_LOOK_MILLIS, LATE_TRIES, LINGER_BYTES,

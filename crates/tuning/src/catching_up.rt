@@ -1,0 +1,27 @@
+//! How a replica that fell behind catches up by what others recorded.
+
+/// Heights by which more than f others are ahead of a replica, behind which it asks for what they recorded; nearer, it asks
+/// for one parent at a time. Fewer: it asks for what is on its way. Above what may wait for parents
+/// (`MOST_WAITING_FRAMES`): what it was given and what comes over its link don't meet.
+pub const AWAY_HEIGHTS: u64 = 2048;
+
+/// Milliseconds in which nothing was executed behind which it asks the next one; as much more behind each round in vain.
+/// Fewer: two are asked for the same. More: who gives nothing costs more.
+pub const CATCH_UP_PAUSE_MILLIS: u64 = 100;
+
+/// That is no longer than so many milliseconds.
+pub const MOST_CATCH_UP_PAUSE_MILLIS: u64 = 5000;
+
+/// Milliseconds for which one is asked again and again, at most, before it is the next one's turn. More: who gives little
+/// costs more.
+pub const CATCH_UP_TURN_MILLIS: u64 = 1000;
+
+/// Bytes that are asked for at once; as many more behind each question in vain. Fewer: more questions. More: a replica takes
+/// nothing else for longer.
+pub const CATCH_UP_BYTES: u64 = 1_048_576;
+
+/// That is no more than half of what one sender may have waiting.
+pub const MOST_CATCH_UP_BYTES: u64 = 8_388_608;
+
+/// Milliseconds between two answers to one replica, at least. Fewer: who asks without end costs more.
+pub const ANSWER_PAUSE_MILLIS: u64 = 2;
