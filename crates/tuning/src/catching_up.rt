@@ -5,6 +5,10 @@
 /// (`MOST_WAITING_FRAMES`): what it was given and what comes over its link don't meet.
 pub const AWAY_HEIGHTS: u64 = 2048;
 
+/// Heights that they are ahead by when it asks no more. Fewer: a server at full load never lets it off. More: what lies
+/// between is asked for one by one.
+pub const NEAR_HEIGHTS: u64 = 256;
+
 /// Milliseconds in which nothing was executed behind which it asks the next one; as much more behind each round in vain.
 /// Fewer: two are asked for the same. More: who gives nothing costs more.
 pub const CATCH_UP_PAUSE_MILLIS: u64 = 100;
