@@ -1,5 +1,5 @@
 -- What a replica asked, and what came of it.
-use Rattle.std.specs.Prelude.{ℕ, ◌-◌, ◌*◌, ◌/◌, ◌^◌, ◌<◌, ◌==◌, ◌&&◌, ◌||◌, not, min, nat_le, nat_lt, Bool, false}
+use Rattle.std.specs.Prelude.{ℕ, ◌-◌, ◌*◌, ◌/◌, ◌^◌, ◌<◌, ◌==◌, ◌&&◌, ◌||◌, not, min, nat_le, nat_lt, Bool, false, true}
 use Rattle.std.specs.Prelude.{if◌then◌else◌, is_some, Option, Some, None}
 use Rattle.std.specs.Option.{option_map_or}
 use Rattle.ids.specs.Sizes.{Sizes, replicas}
@@ -22,6 +22,7 @@ pub record CatchingUp : Type 0 where
   pub from : Option ℕ  -- from which height the answer is that it awaits
   pub is_served : Bool  -- whether the last answer came to its end, and brought something new
   pub vain : ℕ  -- how many questions went out since something new came
+  pub is_away : Bool  -- whether it was far behind when it was looked at last
 
 -- nothing was executed, and nobody asked
 abbrev pub unasked : Sizes → (own : ℕ) → Pace → CatchingUp
@@ -36,6 +37,7 @@ unasked sizes own pace = record {
   from = None;
   is_served = false;
   vain = 0;
+  is_away = false;
 }
 
 -- the height behind one
@@ -48,16 +50,24 @@ next_height height = more height
 abbrev pub noted : (now height : ℕ) → CatchingUp → CatchingUp
 noted now height s = if nat_lt s.height height then record s { height = height; since = now; vain = 0 } else s
 
--- by how many heights it is behind, and whether that is so much that it asks
+-- by how many heights it is behind
 abbrev pub behind : (foremost : ℕ) → CatchingUp → ℕ
 behind foremost s = foremost - s.height
 
+-- who executed up to a height is so far behind that it asks; once it does, until it is near
+abbrev pub is_far : (height foremost : ℕ) → CatchingUp → Bool
+is_far height foremost s = nat_lt (if s.is_away then s.pace.near else s.pace.least) (foremost - height)
+
 abbrev pub is_behind : (foremost : ℕ) → CatchingUp → Bool
-is_behind foremost s = nat_lt s.pace.least (behind foremost s)
+is_behind foremost s = is_far s.height foremost s
 
 -- it isn't far behind, and awaits nothing
 abbrev pub resting : CatchingUp → CatchingUp
-resting s = record s { from = None; is_served = false }
+resting s = record s { from = None; is_served = false; is_away = false }
+
+-- it is far behind
+abbrev pub away : CatchingUp → CatchingUp
+away s = record s { is_away = true }
 
 -- ---- when a question is due, and to whom
 
@@ -110,13 +120,13 @@ asked now s = record s {
 
 abbrev pub asked_by_look : (now height foremost : ℕ) → CatchingUp → Option Question
 asked_by_look now height foremost s =
-    if is_behind foremost (noted now height s) then due_question now (noted now height s) else None
+    if is_behind foremost (noted now height s) then due_question now (away (noted now height s)) else None
 
 abbrev pub looked : (now height foremost : ℕ) → CatchingUp → CatchingUp
 looked now height foremost s =
     if not (is_behind foremost (noted now height s)) then resting (noted now height s)
-    else if is_due now (noted now height s) then asked now (noted now height s)
-    else noted now height s
+    else if is_due now (noted now height s) then asked now (away (noted now height s))
+    else away (noted now height s)
 
 -- ---- what is done behind an answer
 

@@ -1,6 +1,6 @@
 ghost use Rattle.std.specs.Prelude.{◌≡◌, ◌-◌, ◌<◌, ◌≢◌, nat_lt};
 ghost use Rattle.ids.specs.Sizes.{replicas};
-ghost use Rattle.catching_up.specs.States.{after_answer, asked, asked_by_look, behind, due_question, is_awaited, is_behind};
+ghost use Rattle.catching_up.specs.States.{after_answer, asked, asked_by_look, behind, due_question, is_awaited, is_behind, is_far};
 ghost use Rattle.catching_up.specs.States.{is_due, is_over, is_silent, looked, noted, resting, standing, stays, unasked};
 ghost use Rattle.catching_up.specs.States.{bytes_of, next_height, wait, whom};
 
@@ -35,6 +35,8 @@ pub struct CatchingUp {
     is_served: bool,
     /// How many questions went out since something new came.
     vain: u64,
+    /// Whether it was far behind when it was looked at last.
+    is_away: bool,
 }
 
 impl Model for CatchingUp {
@@ -53,6 +55,7 @@ impl Model for CatchingUp {
       from = s.from;
       is_served = s.is_served;
       vain = s.vain;
+      is_away = s.is_away;
     } };
 
     ghost invariant = { λ s. states.IsSound (record {
@@ -66,6 +69,7 @@ impl Model for CatchingUp {
       from = s.from;
       is_served = s.is_served;
       vain = s.vain;
+      is_away = s.is_away;
     }) };
 
     ghost inverse = { λ s. record {
@@ -79,6 +83,7 @@ impl Model for CatchingUp {
       from = s.from;
       is_served = s.is_served;
       vain = s.vain;
+      is_away = s.is_away;
     } };
 }
 
@@ -106,6 +111,7 @@ impl CatchingUp {
             from: None,
             is_served: false,
             vain: 0,
+            is_away: false,
         }
     }
 
@@ -127,11 +133,24 @@ impl CatchingUp {
         foremost.0.saturating_sub(self.height.0)
     }
 
-    /// Whether that is so much that it asks.
+    /// Whether a replica that has executed up to this height is so far behind the foremost that it asks. Once it is, it asks
+    /// until it is near.
+    pub fn is_far(&self, height: Height, foremost: Height) -> bool
+        ensures { result ≡ is_far height foremost self.now }
+    {
+        let most = if self.is_away {
+            self.pace.near
+        } else {
+            self.pace.least
+        };
+        foremost.0.saturating_sub(height.0) > most
+    }
+
+    /// Whether it was so at the last look.
     fn is_behind(&self, foremost: Height) -> bool
         ensures { result ≡ is_behind foremost self.now }
     {
-        self.behind(foremost) > self.pace.least
+        self.is_far(self.height, foremost)
     }
 
     /// It isn't far behind: it awaits no answer any more.
@@ -140,6 +159,14 @@ impl CatchingUp {
     {
         self.from = None;
         self.is_served = false;
+        self.is_away = false;
+    }
+
+    /// Whether it was far behind when it was looked at last.
+    pub fn is_away(&self) -> bool
+        ensures { result ≡ self.now.is_away }
+    {
+        self.is_away
     }
 
     /// After how long in which nothing new came the next one is asked.
@@ -245,13 +272,14 @@ impl CatchingUp {
             self.rest();
             return None;
         }
+        self.is_away = true;
         let question = self.due_question(now)?;
         self.ask(now, &question);
         Some(question)
     }
 
     /// Whether it awaits the answer to this.
-    fn is_awaited(&self, question: &Question) -> bool
+    pub fn is_awaited(&self, question: &Question) -> bool
         ensures { result ≡ is_awaited question.now self.now }
     {
         self.peer == question.to && self.from == Some(question.from)

@@ -3,6 +3,8 @@
 pub struct Pace {
     /// How far behind it asks: more heights than so many.
     pub least: u64,
+    /// How near it has to come before it asks no more: so many heights.
+    pub near: u64,
     /// After how long in which nothing was executed the next one is asked, where one at least of the others asked in the last
     /// round brought something new; as much more for each round in which none did.
     pub pause: u64,

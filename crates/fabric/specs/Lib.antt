@@ -1,4 +1,5 @@
 pub mod Shares
+pub mod Sizes
 pub mod Inboxes
 pub mod Parcels
 pub mod Orders

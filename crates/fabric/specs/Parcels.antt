@@ -7,12 +7,14 @@ use Rattle.ids.specs.Numbers.{kind_number}
 use Rattle.ids.specs.declared.kind.Kind.TheVariants as kind
 use Rattle.tuning.specs.declared.links.TheConstants.{PARCEL_SIZE}
 use Rattle.fabric.specs.declared.parcel.Parcel.{Parcel}
-use Rattle.fabric.specs.declared.parcel.Parcel.TheVariants.{Frame, Passed}
+use Rattle.fabric.specs.declared.parcel.Parcel.TheVariants.{Frame, Passed, Answered}
+use Rattle.fabric.specs.Sizes.{with_all}
 
 -- its bytes, where it has some, and its place
 abbrev pub size_of : Parcel → ℕ
 size_of (Frame number bytes) = length bytes + PARCEL_SIZE
 size_of (Passed from bytes) = length bytes + PARCEL_SIZE
+size_of (Answered answer) = with_all (with_all PARCEL_SIZE answer.frames.items) answer.announced.items
 size_of _ = PARCEL_SIZE
 
 -- it is a client's request, by its kind, which stands last in its head

@@ -2,6 +2,7 @@
 //! frames to replicas.
 #![tactic(auto)]
 
+mod catching;
 mod client_end;
 mod inbox;
 mod laws;
@@ -11,6 +12,7 @@ mod own_blocks;
 mod parcel;
 mod questioned;
 mod queue;
+mod recording;
 mod replica_set;
 mod requests;
 mod suspects;
@@ -25,8 +27,9 @@ pub use client_end::ClientEnd;
 pub use inbox::Inbox;
 pub use laws::link_is_served;
 pub use links::{Ends, Links};
-pub use parcel::{Base, Parcel};
+pub use parcel::{Answer, Base, Parcel};
 pub use questioned::Questioned;
+pub use recording::Recording;
 pub use replica_set::ReplicaSet;
 pub use waiting::WaitingRoom;
 pub use worker::{Outgoing, Worker};

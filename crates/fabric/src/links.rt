@@ -8,9 +8,10 @@ ghost use Rattle.fabric.specs.Parcels.{is_request};
 
 use crate::client_end::{ClientEnd, ClientStart, NotTold, client_link};
 use crate::inbox::{Inbox, Row};
-use crate::parcel::{Base, Parcel};
+use crate::parcel::{Answer, Base, Parcel};
 use crate::replica_set::ReplicaSet;
 use bytes::Bytes;
+use catching_up::Question;
 use fair_queue::Refusal;
 use frames_view::version;
 use ids::{ClientId, Config, Fault, Height, Kind, MOST_REPLICAS, ReplicaId, View};
@@ -70,7 +71,7 @@ fn inboxes(alloc: Global, config: Config) -> Result<(Vec<Arc<Inbox>>, Vec<Arc<In
     let mut links = Vec::with_capacity(alloc, count)?;
     let mut ends = Vec::with_capacity(alloc, count)?;
     for _ in 0..count {
-        let inbox = Inbox::new(alloc, config, count + 1 + CLIENT_ROWS)?;
+        let inbox = Inbox::new(alloc, config, count + 1 + CLIENT_ROWS + count)?;
         let inbox = Arc::new(alloc, inbox)?;
         ends.push_reserved(Arc::try_clone(&inbox)?);
         links.push_reserved(inbox);
@@ -267,6 +268,16 @@ impl Links {
         }
     }
 
+    /// The row of what a replica answers, which holds nothing else of it: its frames don't wait behind that.
+    fn answer_row(&self, from: ReplicaId) -> Row
+        ensures { result ≡ record { number = replicas self.now + 1 + CLIENT_ROWS + from; is_request = false } }
+    {
+        Row {
+            number: usize::from(self.config.n()) + 1 + CLIENT_ROWS + usize::from(from.0),
+            is_request: false,
+        }
+    }
+
     /// What a call at a replica's link came to.
     fn handed(&self, row: Row, answer: Result<(), Refusal>) -> Result<(), Fault>
         ensures { OnErr result (result ≡ Err Fault.Memory) }
@@ -455,6 +466,28 @@ impl Links {
         self.hand_in_row(rt, self.replica_row(from), to, parcel)
     }
 
+    /// Asks a replica for what it recorded.
+    pub fn ask<R: Wait>(&self, rt: &R, from: ReplicaId, question: Question) -> Result<(), Fault>
+        ensures { OnErr result ((result ≡ Err Fault.Memory) ⊎ (result ≡ Err Fault.NoSuchParty)) }
+    {
+        let (row, to) = (self.replica_row(from), question.to);
+        self.hand_in_row(rt, row, to, Parcel::Asked { from, question })
+    }
+
+    /// Answers a replica that asked this one.
+    pub fn answer<R: Wait>(
+        &self,
+        rt: &R,
+        from: ReplicaId,
+        to: ReplicaId,
+        answer: Answer,
+    ) -> Result<(), Fault>
+        ensures { OnErr result ((result ≡ Err Fault.Memory) ⊎ (result ≡ Err Fault.NoSuchParty)) }
+    {
+        let parcel = Parcel::Answered(answer);
+        self.hand_in_row(rt, self.answer_row(from), to, parcel)
+    }
+
     /// Hands in a frame of a replica at a client's link.
     fn to_client<R: Wait>(
         &self,
@@ -492,6 +525,13 @@ impl Links {
         ensures { OnErr result ((result ≡ Err Fault.Memory) ⊎ (result ≡ Err Fault.NoSuchParty)) }
     {
         self.hand_in(rt, to, Parcel::Timeout(view))
+    }
+
+    /// Has a replica that is far behind look whether it asks.
+    pub fn catch_up<R: Wait>(&self, rt: &R, to: ReplicaId) -> Result<(), Fault>
+        ensures { OnErr result ((result ≡ Err Fault.Memory) ⊎ (result ≡ Err Fault.NoSuchParty)) }
+    {
+        self.hand_in(rt, to, Parcel::CatchUp)
     }
 
     /// Gives a replica leave to begin anew as leader.

@@ -2,9 +2,11 @@
 
 ghost use Rattle.std.specs.Prelude.{◌≡◌, ◌+◌, length};
 ghost use Rattle.tuning.specs.declared.links.TheConstants.{PARCEL_SIZE};
+ghost use Rattle.fabric.specs.Sizes.{with_all, with_one};
 
 use crate::replica_set::ReplicaSet;
 use bytes::Bytes;
+use catching_up::Question;
 use ids::{Digest, ReplicaId, View};
 use tuning::PARCEL_SIZE;
 
@@ -13,6 +15,36 @@ pub(crate) fn frame_size(frame: &Bytes) -> usize
     ensures { result ≡ length frame.now + PARCEL_SIZE }
 {
     frame.len() + PARCEL_SIZE
+}
+
+/// How much is taken with one frame more. More than 2^64 - 1 counts as that.
+fn with_one(size: usize, frame: &Bytes) -> usize
+    ensures { result ≡ with_one size frame.now }
+{
+    size.saturating_add(frame_size(frame))
+}
+
+/// How much is taken with these frames, too.
+fn with_all(size: usize, frames: &[Bytes]) -> usize
+    ensures { result ≡ with_all size frames.now }
+{
+    let mut size = size;
+    for frame in frames {
+        size = with_one(size, frame);
+    }
+    size
+}
+
+/// What a replica recorded, as its answer to a question.
+#[derive(Drop)]
+pub struct Answer {
+    pub question: Question,
+    /// Frames that brought blocks, the lowest first.
+    pub frames: Vec<Bytes>,
+    /// The newest frame of each replica that announced a view.
+    pub announced: Vec<Bytes>,
+    /// Whether nothing was recorded behind these frames.
+    pub is_last: bool,
 }
 
 /// From where a leader begins anew, and how many empty blocks are to stand on that before a request does.
@@ -43,6 +75,15 @@ pub enum Parcel {
         from: ReplicaId,
         voters: ReplicaSet,
     },
+    /// Another replica asks for what this one recorded.
+    Asked {
+        from: ReplicaId,
+        question: Question,
+    },
+    /// What another replica recorded.
+    Answered(Answer),
+    /// The replica is far behind, and is to look whether it asks.
+    CatchUp,
     /// Leave to make a proposal.
     Beat,
     /// This view has lasted too long.
@@ -64,6 +105,9 @@ impl Parcel {
     {
         match self {
             Parcel::Frame { bytes, .. } | Parcel::Passed { bytes, .. } => frame_size(bytes),
+            Parcel::Answered(answer) => {
+                with_all(with_all(PARCEL_SIZE, &answer.frames), &answer.announced)
+            }
             _ => PARCEL_SIZE,
         }
     }

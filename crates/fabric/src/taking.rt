@@ -3,17 +3,30 @@
 ghost use Rattle.fabric.specs.Shares.{HasGrown};
 
 use crate::questioned::Questioned;
+use crate::recording::Recording;
 use crate::unfounded::Unfounded;
 use crate::waiting::{Carried, Waiting};
 use crate::worker::{Outgoing, Worker};
 use bytes::Bytes;
 use frames_view::{Frame, read};
-use ids::{Digest, Fault, ReplicaId, View};
+use ids::{Config, Digest, Fault, Kind, ReplicaId, View};
 use signed_frames::Out;
 use std::alloc::{AllocError, Global};
 use std::sync::Wait;
 use std::time::Clock;
 use turns::{Gate, Share, Steps, gather, offer, turn};
+
+/// For which block a step votes, if for one.
+fn voted_for(config: &Config, out: &Out) -> Option<Digest> {
+    let vote = out
+        .sendings()
+        .iter()
+        .find(|sending| sending.kind == Kind::Vote)?;
+    match read(config, &vote.frame) {
+        Ok(Frame::Vote(vote)) => Some(Digest(*vote.digest())),
+        _ => None,
+    }
+}
 
 /// The bytes of frames.
 fn slices<'b>(alloc: Global, frames: &'b [Bytes]) -> Result<Vec<&'b [u8]>, AllocError> {
@@ -24,7 +37,7 @@ fn slices<'b>(alloc: Global, frames: &'b [Bytes]) -> Result<Vec<&'b [u8]>, Alloc
     Ok(slices)
 }
 
-impl<'a, G: Gate, O: Outgoing + Questioned> Worker<'a, G, O> {
+impl<'a, G: Gate, O: Outgoing + Questioned + Recording> Worker<'a, G, O> {
     /// The turn of one frame; where a tag isn't right, it is offered. What it sends goes out.
     pub(crate) fn bring<R: Wait + Clock, S: Steps>(
         &mut self,
@@ -32,7 +45,7 @@ impl<'a, G: Gate, O: Outgoing + Questioned> Worker<'a, G, O> {
         steps: &mut S,
         share: &mut Share,
         number: u64,
-        bytes: &[u8],
+        bytes: &Bytes,
     ) -> Result<(), Fault>
         ensures { HasGrown share.old share.new }
     {
@@ -43,33 +56,41 @@ impl<'a, G: Gate, O: Outgoing + Questioned> Worker<'a, G, O> {
             self.gate,
             number,
             self.keyring.verifying(),
-            bytes,
+            bytes.as_slice(),
         );
         match answer {
             Err(Fault::BadTag) => self.offer(rt, steps, share, number, bytes),
-            answer => self.finish(rt, answer),
+            answer => self.finish(rt, bytes, answer),
         }
     }
 
-    /// What a step sends goes out.
-    fn finish<R: Wait>(&mut self, rt: &R, answer: Result<Out, Fault>) -> Result<(), Fault> {
+    /// What a step sends goes out that a frame brought about, and the frame is recorded.
+    fn finish<R: Wait>(
+        &mut self,
+        rt: &R,
+        bytes: &Bytes,
+        answer: Result<Out, Fault>,
+    ) -> Result<(), Fault> {
         let out = answer?;
+        let voted = voted_for(&self.keyring.config(), &out);
         self.send_all(rt, out);
+        self.out.record(rt, bytes, voted);
         Ok(())
     }
 
     /// Offers a frame, if its own tag is right. What the step sends goes out.
-    fn offer_once<R: Wait, S: Steps>(
+    pub(crate) fn offer_once<R: Wait, S: Steps>(
         &mut self,
         rt: &R,
         steps: &mut S,
         share: &mut Share,
-        bytes: &[u8],
+        bytes: &Bytes,
     ) -> Option<Result<(), Fault>>
         ensures { HasGrown share.old share.new }
     {
-        let answer = offer(rt, steps, share, self.keyring.verifying(), bytes)?;
-        Some(self.finish(rt, answer))
+        let keyring = self.keyring.verifying();
+        let answer = offer(rt, steps, share, keyring, bytes.as_slice())?;
+        Some(self.finish(rt, bytes, answer))
     }
 
     /// The view of a frame, if it is a proposal.
@@ -88,7 +109,7 @@ impl<'a, G: Gate, O: Outgoing + Questioned> Worker<'a, G, O> {
         steps: &mut S,
         share: &mut Share,
         number: u64,
-        bytes: &[u8],
+        bytes: &Bytes,
     ) -> Result<(), Fault>
         ensures { HasGrown share.old share.new }
     {
@@ -96,13 +117,14 @@ impl<'a, G: Gate, O: Outgoing + Questioned> Worker<'a, G, O> {
         let Some(brought) = self.offer_once(rt, steps, share, bytes) else {
             return Err(Fault::BadTag);
         };
-        if self.proposed_in(bytes) == Some(self.out.view()) {
-            self.out.doubted(rt, self.keyring.verifying(), bytes);
+        if self.proposed_in(bytes.as_slice()) == Some(self.out.view()) {
+            let keyring = self.keyring.verifying();
+            self.out.doubted(rt, keyring, bytes.as_slice());
         }
         if brought != Err(Fault::BadTag) {
             return brought;
         }
-        let bytes = Bytes::copy_from_slice(self.alloc, bytes)?;
+        let bytes = bytes.clone()?;
         let frame = Unfounded {
             number,
             bytes,
@@ -154,8 +176,9 @@ impl<'a, G: Gate, O: Outgoing + Questioned> Worker<'a, G, O> {
         ensures { HasGrown share.old share.new }
     {
         let frames = slices(self.alloc, &copies)?;
-        let answer = gather(rt, steps, share, self.keyring.verifying(), &frames);
-        self.finish(rt, answer)
+        let out = gather(rt, steps, share, self.keyring.verifying(), &frames)?;
+        self.send_all(rt, out);
+        Ok(())
     }
 
     /// Brings the frames that lack this block, which the replica has by now, and those that lack a
@@ -179,7 +202,7 @@ impl<'a, G: Gate, O: Outgoing + Questioned> Worker<'a, G, O> {
                 continue;
             };
             let _refused = known.push(block);
-            let brought = self.bring(rt, steps, share, frame.number, frame.bytes.as_slice());
+            let brought = self.bring(rt, steps, share, frame.number, &frame.bytes);
             if brought.is_ok() {
                 latest = frame.brings.block();
                 self.has_taken(rt, latest.as_ref());
@@ -195,7 +218,7 @@ impl<'a, G: Gate, O: Outgoing + Questioned> Worker<'a, G, O> {
         parent: Digest,
         sender: ReplicaId,
     ) {
-        if self.out.in_trouble() {
+        if self.asks() {
             self.out.need_below(rt, block, parent, sender);
         }
     }
@@ -224,14 +247,14 @@ impl<'a, G: Gate, O: Outgoing + Questioned> Worker<'a, G, O> {
             Some(block) => self.ask_below(rt, block, frame.lacks, frame.sender),
             // Of an announcement the view counts at once.
             None => {
-                let _seen = self.offer_once(rt, steps, share, bytes.as_slice());
+                let _seen = self.offer_once(rt, steps, share, &bytes);
             }
         }
         self.room.wait(rt, frame);
         if !self.room.is_shared() {
             return;
         }
-        let brought = self.bring(rt, steps, share, number, bytes.as_slice());
+        let brought = self.bring(rt, steps, share, number, &bytes);
         if brought == Err(Fault::UnknownParent) {
             return;
         }
@@ -271,10 +294,13 @@ impl<'a, G: Gate, O: Outgoing + Questioned> Worker<'a, G, O> {
     )
         ensures { HasGrown share.old share.new }
     {
-        if self.is_late(rt, bytes.as_slice()) || !self.lets_in(rt, &bytes) {
+        if self.is_out_of_reach(bytes.as_slice())
+            || self.is_late(rt, bytes.as_slice())
+            || !self.lets_in(rt, &bytes)
+        {
             return;
         }
-        match self.bring(rt, steps, share, number, bytes.as_slice()) {
+        match self.bring(rt, steps, share, number, &bytes) {
             Ok(()) => self.taken(rt, steps, share, &bytes),
             Err(Fault::UnknownParent) => self.take_later(rt, steps, share, number, bytes),
             Err(_) => {}
@@ -282,7 +308,7 @@ impl<'a, G: Gate, O: Outgoing + Questioned> Worker<'a, G, O> {
     }
 
     /// A frame was taken. A request is kept. What waited for the block that it brings comes next.
-    fn taken<R: Wait + Clock, S: Steps>(
+    pub(crate) fn taken<R: Wait + Clock, S: Steps>(
         &mut self,
         rt: &R,
         steps: &mut S,
@@ -292,7 +318,7 @@ impl<'a, G: Gate, O: Outgoing + Questioned> Worker<'a, G, O> {
         ensures { HasGrown share.old share.new }
     {
         self.keep_request(rt, bytes);
-        if self.room.is_empty() && !self.out.in_trouble() {
+        if self.room.is_empty() && !self.asks() {
             self.room.has_news();
             return;
         }
@@ -306,7 +332,7 @@ impl<'a, G: Gate, O: Outgoing + Questioned> Worker<'a, G, O> {
     /// A frame was taken that brings this block, if any: it isn't asked for any more.
     fn has_taken<R: Wait>(&self, rt: &R, block: Option<&Digest>) {
         self.room.has_news();
-        if let (true, Some(block)) = (self.out.in_trouble(), block) {
+        if let (true, Some(block)) = (self.asks(), block) {
             self.out.close(rt, block);
         }
     }
@@ -332,7 +358,7 @@ impl<'a, G: Gate, O: Outgoing + Questioned> Worker<'a, G, O> {
         let Some(Unfounded { number, bytes, .. }) = self.room.next_unfounded(rt) else {
             return;
         };
-        match self.offer_once(rt, steps, share, bytes.as_slice()) {
+        match self.offer_once(rt, steps, share, &bytes) {
             Some(Ok(())) => self.taken(rt, steps, share, &bytes),
             Some(Err(Fault::UnknownParent)) => self.take_later(rt, steps, share, number, bytes),
             Some(Err(Fault::BadTag)) if !self.is_past(bytes.as_slice()) => {

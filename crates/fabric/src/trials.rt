@@ -5,6 +5,7 @@ ghost use Rattle.fabric.specs.Shares.{HasGrown};
 use crate::links::is_request;
 use crate::parcel::Base;
 use crate::questioned::Questioned;
+use crate::recording::Recording;
 use crate::requests::{Again, Entry};
 use crate::worker::{OWN, Outgoing, Worker};
 use admission::{Input, admit};
@@ -27,7 +28,7 @@ fn request_of(config: &Config, bytes: &Bytes) -> Option<(ClientId, Seq)> {
     }
 }
 
-impl<'a, G: Gate, O: Outgoing + Questioned> Worker<'a, G, O> {
+impl<'a, G: Gate, O: Outgoing + Questioned + Recording> Worker<'a, G, O> {
     /// Keeps a frame that is a request. Who asked for it before it came has an answer.
     pub(crate) fn keep_request<R: Wait>(&self, rt: &R, bytes: &Bytes) {
         let Some((client, seq)) = request_of(&self.keyring.config(), bytes) else {
@@ -74,7 +75,7 @@ impl<'a, G: Gate, O: Outgoing + Questioned> Worker<'a, G, O> {
         if self.out.leads() {
             let now = self.out.millis(rt);
             if self.room.vouch(rt, client, from, &bytes, now) {
-                let _answer = self.bring(rt, steps, share, OWN, bytes.as_slice());
+                let _answer = self.bring(rt, steps, share, OWN, &bytes);
             }
         } else if self.room.has_request(rt, client, &bytes) {
             self.pass_on(rt, Some(from), &bytes);
@@ -202,7 +203,7 @@ impl<'a, G: Gate, O: Outgoing + Questioned> Worker<'a, G, O> {
         ensures { HasGrown share.old share.new }
     {
         for bytes in frames {
-            let _answer = self.bring(rt, steps, share, OWN, bytes.as_slice());
+            let _answer = self.bring(rt, steps, share, OWN, &bytes);
         }
     }
 
@@ -238,7 +239,7 @@ impl<'a, G: Gate, O: Outgoing + Questioned> Worker<'a, G, O> {
         ensures { HasGrown share.old share.new }
     {
         if let Some(bytes) = self.room.next_trial(rt, now) {
-            let _answer = self.bring(rt, steps, share, OWN, bytes.as_slice());
+            let _answer = self.bring(rt, steps, share, OWN, &bytes);
             self.room.wait_for_trial(rt);
         }
     }

@@ -9,6 +9,7 @@ use crate::own_blocks::OwnBlocks;
 use crate::parcel::Parcel;
 use crate::questioned::Questioned;
 use crate::queue::Question;
+use crate::recording::Recording;
 use crate::replica_set::ReplicaSet;
 use crate::waiting::WaitingRoom;
 use admission::Input;
@@ -108,7 +109,10 @@ impl Outgoing for Links {
 /// They keep no questions.
 impl Questioned for Links {}
 
-impl<'a, G: Gate, O: Outgoing + Questioned> Worker<'a, G, O> {
+/// They keep no record.
+impl Recording for Links {}
+
+impl<'a, G: Gate, O: Outgoing + Questioned + Recording> Worker<'a, G, O> {
     /// A worker of the keyring's replica. The replica's workers share the room.
     pub fn new(
         alloc: Global,
@@ -136,6 +140,9 @@ impl<'a, G: Gate, O: Outgoing + Questioned> Worker<'a, G, O> {
         let own = self.keyring.replica();
         for sending in out.into_sendings() {
             self.note_reply(rt, &sending);
+            if self.is_too_late(&sending) {
+                continue;
+            }
             let sending = self.aimed(sending);
             if sending.to == To::Replica(own) {
                 self.keep(Bytes::from_vec(sending.frame).ok());
@@ -147,6 +154,17 @@ impl<'a, G: Gate, O: Outgoing + Questioned> Worker<'a, G, O> {
             }
             self.out.send(rt, own, sending);
         }
+    }
+
+    /// Whether a frame is a vote or a reply of a replica that is far behind: others brought the block to its certificate, and
+    /// answered.
+    fn is_too_late(&self, sending: &Sending) -> bool {
+        matches!(sending.kind, Kind::Vote | Kind::Reply) && self.out.reach().is_some()
+    }
+
+    /// Whether the replica asks for blocks that lack: in trouble, and where it is far behind.
+    pub(crate) fn asks(&self) -> bool {
+        self.out.in_trouble() || self.out.reach().is_some()
     }
 
     /// A frame as it is to be sent: in trouble votes go to all.
@@ -227,13 +245,14 @@ impl<'a, G: Gate, O: Outgoing + Questioned> Worker<'a, G, O> {
         }
     }
 
-    /// A parcel is done. Asks for the block that a waiting frame lacks, if it has waited long enough, and in trouble for
-    /// those that lack since a frame had no grounds.
+    /// A parcel is done. Asks for the block that a waiting frame lacks, if it has waited long enough and the replica isn't far
+    /// behind, and where it asks for those that lack since a frame had no grounds.
     fn end<R: Wait + Clock>(&self, rt: &R) {
-        if let Some(Question { sender, block }) = self.room.end(rt) {
+        let question = (self.room.end(rt), self.out.reach());
+        if let (Some(Question { sender, block }), None) = question {
             self.ask_one(rt, sender, &block);
         }
-        if self.out.in_trouble() {
+        if self.asks() {
             self.ask(rt);
         }
     }
@@ -308,6 +327,11 @@ impl<'a, G: Gate, O: Outgoing + Questioned> Worker<'a, G, O> {
                 }
                 Parcel::Passed { from, bytes } => self.hear(rt, steps, &mut share, from, bytes),
                 Parcel::Doubted { from, voters } => self.out.hear_doubt(rt, from, voters),
+                Parcel::Asked { from, question } => {
+                    self.out.answer(rt, self.alloc, from, question);
+                }
+                Parcel::Answered(answer) => self.take_answer(rt, steps, &mut share, answer),
+                Parcel::CatchUp => self.out.catch_up(rt),
                 Parcel::Beat => self.step(rt, steps, &mut share, Input::Beat),
                 Parcel::Timeout(view) => self.time_out(rt, steps, &mut share, view),
                 Parcel::Lead(base) => self.lead(rt, steps, &mut share, base),
