@@ -1,6 +1,6 @@
 -- What a lying replica sends.
 use Rattle.std.specs.Prelude.{◌≡◌, ℕ, ◌+◌, ◌-◌, ◌*◌, ◌/◌, ◌%◌, ◌^◌, ◌==◌, min, List, [], ◌∷◌, map, replicate}
-use Rattle.std.specs.Prelude.{◌++◌, zero, suc, Option, None, Some, nat_lt, if◌then◌else◌}
+use Rattle.std.specs.Prelude.{◌++◌, take, zero, suc, Option, None, Some, nat_lt, if◌then◌else◌}
 use Rattle.std.specs.List.{flat_map, range_with_len}
 use Rattle.ids.specs.declared.kind.Kind.TheVariants as kind
 use Rattle.ids.specs.Sizes.{Sizes, replicas}
@@ -23,7 +23,7 @@ use Rattle.liars.specs.declared.plain.TheConstants.{REPEATS}
 use Rattle.liars.specs.declared.plain.Lie.{Lie}
 use Rattle.liars.specs.declared.plain.Lie.TheVariants.{Mute, TwoFaced, BadReply, Crowder, Flooder}
 use Rattle.liars.specs.declared.plain.Lie.TheVariants.{HalfVoter, LateHalfVoter, HalfVotes, Climber, Spoiler}
-use Rattle.liars.specs.declared.plain.Lie.TheVariants.{WrongAnswers}
+use Rattle.liars.specs.declared.plain.Lie.TheVariants.{WrongAnswers, OneLeftOut, WrongRecords}
 
 -- the proposal of a block that has no commands, with a replica's tags
 abbrev pub empty_proposal : Keys → ℕ → Core → Certificate → Frame
@@ -143,6 +143,17 @@ half_voted ring sent (Some (proposal view core q vector)) = []
 half_voted ring sent (Some (vote d v)) = half_vote ring sent d (replica_in ring.sizes sent.0) ∷ []
 half_voted ring sent read = sent ∷ []
 
+-- the tags of a vote, with zero bytes for the last replica
+abbrev pub but_last : Sizes → Bytes → Bytes
+but_last sizes tags = take (tag_len * (replicas sizes - 1)) tags ++ replicate tag_len 0
+
+-- what a voter that leaves out the last replica sends in place of a frame: no proposals, and such votes
+abbrev pub leaving_out : Keys → SentBytes → Option Frame → List SentBytes
+leaving_out ring sent (Some (proposal view core q vector)) = []
+leaving_out ring sent (Some (vote d v)) =
+    (sent.0, kind.Vote, spelling (vote d (record v { vector = but_last ring.sizes v.vector }))) ∷ []
+leaving_out ring sent read = sent ∷ []
+
 -- the block of this number of a chain of empty ones, the first of which stands in place of a block
 unfoldable pub climbing : Core → ℕ → Core
 climbing core zero = record {
@@ -245,3 +256,5 @@ IsLie ring HalfVotes sent out = IsTold (half_voted ring) ring.sizes sent out
 IsLie ring Climber sent out = IsTold (climbed ring) ring.sizes sent out
 IsLie ring Spoiler sent out = IsTold (spoilt ring) ring.sizes sent out
 IsLie ring WrongAnswers sent out = IsTold (wrongly_answered ring) ring.sizes sent out
+IsLie ring OneLeftOut sent out = IsTold (leaving_out ring) ring.sizes sent out
+IsLie ring WrongRecords sent out = out ≡ sent ∷ []

@@ -8,6 +8,7 @@ mod claims;
 mod climb;
 mod crowd;
 mod half;
+mod left_out;
 mod lies;
 mod lone;
 mod low;

@@ -13,6 +13,7 @@ use crate::answers::with_wrong_answers;
 use crate::climb::with_climb;
 use crate::crowd::crowd;
 use crate::half::{LATE, SOON, with_half_certificates, with_half_votes};
+use crate::left_out::with_one_left_out;
 use crate::spoil::with_spoilt_requests;
 use authenticators::ReplicaKeyring;
 use frame_writers::{ReplyText, write_core};
@@ -55,6 +56,10 @@ pub enum Lie {
     /// In place of each answer to a question it sends another block, and then the block with a certificate for that
     /// one itself.
     WrongAnswers,
+    /// It proposes nothing, and its votes are right for all but the replica of the greatest number.
+    OneLeftOut,
+    /// It sends all as it is. What others ask of its record, outside of frames, it answers wrongly.
+    WrongRecords,
 }
 
 /// How many times more a flooder sends each frame.
@@ -83,6 +88,8 @@ pub(crate) fn plain_lie(
         Lie::Climber => with_climb(alloc, keyring, sending),
         Lie::Spoiler => with_spoilt_requests(alloc, keyring, sending),
         Lie::WrongAnswers => with_wrong_answers(alloc, keyring, sending),
+        Lie::OneLeftOut => with_one_left_out(alloc, keyring, sending),
+        Lie::WrongRecords => Ok(one(alloc, sending)?),
     }
 }
 
