@@ -5,8 +5,6 @@ use Rattle.std.specs.Option.{option_map_or}
 use Rattle.ids.specs.Sizes.{Sizes, replicas}
 use Rattle.catching_up.specs.declared.pace.Pace.{Pace}
 use Rattle.catching_up.specs.declared.question.Question.{Question}
-use Rattle.catching_up.specs.declared.standing.Standing.{Standing}
-use Rattle.catching_up.specs.declared.standing.Standing.TheVariants.{AtOne, Behind, Asking, BeyondReach}
 use Rattle.catching_up.specs.Told.{more}
 use Rattle.catching_up.specs.Turns.{next_peer}
 
@@ -138,18 +136,6 @@ is_awaited question s = (s.peer == question.to) && option_map_or (λ from. from 
 abbrev pub after_answer : Question → CatchingUp → CatchingUp
 after_answer question s =
     if is_awaited question s then record s { from = None; is_served = nat_le question.from s.height } else s
-
--- ---- how it stands
-
-abbrev pub standing_of : (behind peer : ℕ) → Option ℕ → Standing
-standing_of behind peer None = Behind behind
-standing_of behind peer (Some from) = Asking behind peer from
-
-abbrev pub standing : (foremost : ℕ) → (is_beyond : Bool) → CatchingUp → Standing
-standing foremost is_beyond s =
-    if not (is_behind foremost s) then AtOne
-    else if is_beyond then BeyondReach (behind foremost s)
-    else standing_of (behind foremost s) s.peer s.from
 
 -- ---- what always holds
 

@@ -1,13 +1,12 @@
 ghost use Rattle.std.specs.Prelude.{◌≡◌, ◌-◌, ◌<◌, ◌≢◌, nat_lt};
 ghost use Rattle.ids.specs.Sizes.{replicas};
 ghost use Rattle.catching_up.specs.States.{after_answer, asked, asked_by_look, behind, due_question, is_awaited, is_behind, is_far};
-ghost use Rattle.catching_up.specs.States.{is_due, is_over, is_silent, looked, noted, resting, standing, stays, unasked};
+ghost use Rattle.catching_up.specs.States.{is_due, is_over, is_silent, looked, noted, resting, stays, unasked};
 ghost use Rattle.catching_up.specs.States.{bytes_of, next_height, wait, whom};
 
 use crate::pace::Pace;
 use crate::question::Question;
 use crate::ring::next_peer;
-use crate::standing::Standing;
 use ids::{Config, Height, ReplicaId};
 use std::marker::Model;
 
@@ -294,24 +293,6 @@ impl CatchingUp {
         if self.is_awaited(question) {
             self.from = None;
             self.is_served = self.height.0 >= question.from.0;
-        }
-    }
-
-    /// How it stands, where the foremost of the others executed up to this height, and where all others told that what
-    /// they recorded lies above what it needs, or not all.
-    pub fn standing(&self, foremost: Height, is_beyond: bool) -> Standing
-        ensures { result ≡ standing foremost is_beyond self.now }
-    {
-        let behind = self.behind(foremost);
-        if !self.is_behind(foremost) {
-            return Standing::AtOne;
-        }
-        if is_beyond {
-            return Standing::BeyondReach(behind);
-        }
-        match self.from {
-            Some(from) => Standing::Asking(behind, self.peer, from),
-            None => Standing::Behind(behind),
         }
     }
 }

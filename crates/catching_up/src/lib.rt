@@ -10,12 +10,10 @@ mod laws;
 mod pace;
 mod question;
 mod ring;
-mod standing;
 mod told;
 
 pub use catching_up::CatchingUp;
 pub use laws::{a_correct_one_told, each_is_asked};
 pub use pace::Pace;
 pub use question::Question;
-pub use standing::Standing;
 pub use told::{foremost, is_beyond};

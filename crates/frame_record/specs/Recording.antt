@@ -37,12 +37,9 @@ from_height height frames = filter (λ r. nat_le height r.height) frames
 abbrev pub inserted : Recorded → List Recorded → List Recorded
 inserted r frames = up_to r.height frames ++ r ∷ above r.height frames
 
--- the lowest and the highest height that is recorded
+-- the lowest height that is recorded
 abbrev pub lowest : List Recorded → Option ℕ
 lowest frames = option_map (λ r. r.height) (slice_get frames 0)
-
-abbrev pub highest : List Recorded → Option ℕ
-highest frames = option_map (λ r. r.height) (slice_get frames (length frames - 1))
 
 -- a height below the lowest that is recorded
 abbrev pub is_low : (height : ℕ) → List Recorded → Bool

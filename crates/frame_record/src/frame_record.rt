@@ -1,6 +1,6 @@
 ghost use Rattle.std.specs.Prelude.{◌≡◌, ◌==◌, length, ◌-◌, ◌^◌, ◌≤◌, IfOk, MatchOption, OnErr, OnOk, min, nat_lt};
 ghost use Rattle.frame_record.specs.Costs.{cost, cost_of};
-ghost use Rattle.frame_record.specs.Recording.{AreInOrder, batch, empty, frames_of, from_height, highest};
+ghost use Rattle.frame_record.specs.Recording.{AreInOrder, batch, empty, frames_of, from_height};
 ghost use Rattle.frame_record.specs.Recording.{is_known, is_low, lowest, why_not, with_frame};
 
 use crate::batch::Batch;
@@ -130,13 +130,6 @@ impl FrameRecord {
         ensures { result ≡ lowest self.now.frames }
     {
         Some(self.frames.front()?.height)
-    }
-
-    /// The highest height that is recorded.
-    pub fn highest(&self) -> Option<Height>
-        ensures { result ≡ highest self.now.frames }
-    {
-        Some(self.frames.back()?.height)
     }
 
     /// What the frames cost.

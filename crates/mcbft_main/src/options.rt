@@ -2,6 +2,7 @@
 
 use clap::builder::ValueParser;
 use clap::{Arg, ArgAction, ArgMatches, Command, Error};
+use ids::Height;
 use liars::{Liar, Lie};
 use server::{Liars, Terms, Workers};
 use std::alloc::{AllocError, Global};
@@ -13,7 +14,7 @@ Example: bin/make-keys 1 8 > keys; mcbft --keys keys --port 11211
 docs/OPERATING.md tells its limits, and what to do at each message.";
 
 /// The names of the lies.
-const LIARS: [&str; 14] = [
+const LIARS: [&str; 16] = [
     "mute",
     "two-faced",
     "bad-reply",
@@ -27,6 +28,8 @@ const LIARS: [&str; 14] = [
     "spoiler",
     "wrong-answers",
     "false-claims",
+    "one-left-out",
+    "wrong-records",
     "any",
 ];
 
@@ -56,7 +59,7 @@ enum Word {
 }
 
 /// All options, in the order in which help has them.
-const WORDS: [Word; 17] = [
+const WORDS: [Word; 19] = [
     Word::Keys,
     Word::Number(Number {
         name: "faults",
@@ -154,6 +157,22 @@ const WORDS: [Word; 17] = [
         most: MOST_OF_32_BITS,
         default: "0",
         help: "Heights kept for replicas that are behind; 0: 65,536 among all",
+    }),
+    Word::Number(Number {
+        name: "record",
+        value: "MB",
+        least: 0,
+        most: MOST_OF_32_BITS,
+        default: "256",
+        help: "What replicas record for who fell behind",
+    }),
+    Word::Number(Number {
+        name: "late",
+        value: "HEIGHT",
+        least: 0,
+        most: MOST_OF_32_BITS,
+        default: "0",
+        help: "The last replica begins when others are there; 0: at once",
     }),
     Word::Archive,
     Word::Number(Number {
@@ -255,6 +274,7 @@ impl<'a> Options<'a> {
         let blocks: u32 = matches.get_one("blocks")?;
         let window: u32 = matches.get_one("window")?;
         let liars: u8 = matches.get_one("liars")?;
+        let record: u32 = matches.get_one("record")?;
         Some(Options {
             keys: matches.get_str("keys")?,
             faults: matches.get_one("faults")?,
@@ -277,6 +297,8 @@ impl<'a> Options<'a> {
                     Some(u64::from(window))
                 },
                 window_most: unless_zero(matches.get_one("window-most")?),
+                record: u64::from(record),
+                late: unless_zero(matches.get_one("late")?).map(|height| Height(height)),
                 workers: workers_of(matches.get_one("workers")?),
                 watch: unless_zero(matches.get_one("watch")?),
                 hasher,
@@ -317,6 +339,8 @@ fn lie_of(name: &str) -> Option<Lie> {
         "climber" => Some(Lie::Climber),
         "spoiler" => Some(Lie::Spoiler),
         "wrong-answers" => Some(Lie::WrongAnswers),
+        "one-left-out" => Some(Lie::OneLeftOut),
+        "wrong-records" => Some(Lie::WrongRecords),
         _ => None,
     }
 }

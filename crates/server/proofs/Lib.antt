@@ -4,3 +4,4 @@ pub mod Sets
 mod Lies
 mod Numbers
 mod Sharing
+mod Doubting

@@ -1,12 +1,14 @@
 -- When a proposal is out, and which beats are in vain.
 use Rattle.std.specs.Prelude.{◌≡◌, ◌==◌, ◌&&◌, Bool, true, false, not, List, [], ◌∷◌, Result, Ok, Err}
-use Rattle.std.specs.Prelude.{if◌then◌else◌, Option, Some, None}
+use Rattle.std.specs.Prelude.{if◌then◌else◌, nat_lt, ℕ, Option, Some, None}
 use Rattle.ids.specs.Sizes.{leader}
 use Rattle.ids.specs.declared.fault.Fault.{Fault}
 use Rattle.ids.specs.declared.fault.Fault.TheVariants.{BadHeight, NotMine, WrongJustify}
 use Rattle.admission.specs.declared.input.Input.{Input}
 use Rattle.admission.specs.declared.input.Input.TheVariants as input
 use Rattle.admission.specs.Inputs.{input_of}
+use Rattle.definitions.specs.Chronicles.{vheight}
+use Rattle.definitions.specs.Frames.{Core}
 use Rattle.definitions.specs.States.{view}
 use Rattle.definitions.specs.Rulings.{Input as Ruled, Input.proposal_in, Input.offered_in}
 use Rattle.doorkeeper.specs.Climbs.{climbs_too_far}
@@ -61,10 +63,14 @@ leads kept = leader kept.keys.sizes (view kept.keys.sizes kept.replica.chronicle
 abbrev pub is_vain : KeptState → Input → Bool
 is_vain kept input = is_beat input && not (leads kept)
 
--- a proposal for which a vote would be careless
+-- A vote for a proposal would be careless. One of another view, or no higher than what it voted for, finds no vote anyway.
+abbrev pub is_careless_in : KeptState → (proposed : ℕ) → Core → Bool
+is_careless_in kept proposed core = (view kept.keys.sizes kept.replica.chronicle == proposed)
+    && nat_lt (vheight kept.replica.chronicle) core.height && is_careless_core core kept.replica.chronicle
+
 abbrev pub is_careless : KeptState → Ruled → Bool
-is_careless kept (proposal_in view core q found) = is_careless_core core kept.replica.chronicle
-is_careless kept (offered_in (Some view) sender core q found) = is_careless_core core kept.replica.chronicle
+is_careless kept (proposal_in proposed core q found) = is_careless_in kept proposed core
+is_careless kept (offered_in (Some proposed) sender core q found) = is_careless_in kept proposed core
 is_careless kept other = false
 
 -- Why an input is refused before the doorkeeper counts: a vain beat, a block that climbs too far, or a careless proposal.

@@ -1,11 +1,13 @@
 //! Frames that a replica doubts: their sender made them, and their certificate isn't right for it.
 
-ghost use Rattle.std.specs.Prelude.{◌≡◌, IfSome, false, true};
+ghost use Rattle.std.specs.Prelude.{◌≡◌, ◌<◌, ℕ, IfSome, false, true};
 ghost use Rattle.definitions.specs.Admission.{own_tag_verifies};
 ghost use Rattle.definitions.specs.Checks.{identity_of, is_good, vote_verifies};
 ghost use Rattle.definitions.specs.FrameLimits.{IsCertificate, IsFrame, IsVote};
 ghost use Rattle.frames_view.specs.Views.{certificate_of, proposal_of, vote_of};
-ghost use Rattle.server.specs.Doubting.{IsDoubt};
+ghost use Rattle.fabric.specs.ReplicaSets.{is_in};
+ghost use Rattle.ids.specs.declared.limits.TheConstants.{MOST_REPLICAS};
+ghost use Rattle.server.specs.Doubting.{IsDoubt, is_wrong};
 
 use crate::stations::Station;
 use authenticators::VerifyingKeyring;
@@ -63,6 +65,8 @@ fn vote_is_right(keyring: &VerifyingKeyring, digest: &[u8; 32], vote: &VoteView<
 /// Whose votes in a certificate aren't right for a replica.
 fn wrong_votes(keyring: &VerifyingKeyring, certificate: &CertificateView<'_>) -> ReplicaSet
     requires { IsCertificate keyring.now.sizes (certificate_of certificate.now) }
+    ensures { (voter : ℕ) → voter < MOST_REPLICAS
+        → is_in result voter ≡ is_wrong keyring.now (certificate_of certificate.now) voter }
 {
     let mut wrong = ReplicaSet::none();
     for vote in certificate.votes() {

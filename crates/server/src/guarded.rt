@@ -4,6 +4,7 @@ ghost use Rattle.std.specs.Prelude.{◌≡◌, ◌-◌, ◌⊎◌, ◌&&◌, Err
 ghost use Rattle.std.specs.Bool.{OnFalse};
 ghost use Rattle.ids.specs.declared.fault.Fault.TheVariants.{Full, Crowded, Memory};
 ghost use Rattle.definitions.specs.Chronicles.{horizon, window};
+ghost use Rattle.frames_view.specs.Views.{core_of};
 ghost use Rattle.doorkeeper.specs.Doors.{passes, remembered, with_block};
 ghost use Rattle.admission.specs.Inputs.{input_of};
 ghost use Rattle.locked_replica.specs.Heeding as heeding;
@@ -14,7 +15,8 @@ ghost use Rattle.ids.specs.declared.limits.TheConstants.{BELOW_HORIZON};
 
 use asking::Questions;
 use doorkeeper::{Brought, Doorkeeper, brings, climbs_too_far};
-use ids::{Fault, Height, ReplicaId};
+use frames_view::CoreView;
+use ids::{Fault, Height, ReplicaId, View};
 use locked_replica::{Kept, Share};
 use replica::{Input, Out, Replica};
 use turns::{Prompt, UnderLock};
@@ -101,13 +103,28 @@ impl<'a> Guarded<'a> {
         matches!(input, Input::Beat) && !self.leads()
     }
 
+    /// Whether a vote for a proposal of this view would be careless. One of another view than the replica's, or no higher than
+    /// what it voted for, finds no vote anyway: it may bring a block that the replica lacks.
+    fn is_careless_in(&self, view: View, core: &CoreView<'_>) -> bool
+        ensures { result ≡ guarding.is_careless_in self.now.kept view (core_of core.now) }
+    {
+        let replica = self.replica();
+        replica.view() == view && replica.voted().0 < core.height().0 && replica.is_careless(core)
+    }
+
     /// Whether it is a proposal for which a vote would be careless.
     fn is_careless(&self, input: &Input<'_>) -> bool
         ensures { result ≡ guarding.is_careless self.now.kept (input_of input.now) }
     {
         match input {
-            Input::Proposal(checked) => self.replica().is_careless(&checked.view().core()),
-            Input::OfferedProposal(tagged) => self.replica().is_careless(&tagged.view().core()),
+            Input::Proposal(checked) => {
+                let proposal = checked.view();
+                self.is_careless_in(proposal.view(), &proposal.core())
+            }
+            Input::OfferedProposal(tagged) => {
+                let proposal = tagged.view();
+                self.is_careless_in(proposal.view(), &proposal.core())
+            }
             _ => false,
         }
     }
@@ -202,7 +219,7 @@ impl<'a> Guarded<'a> {
 
 /// Each step is one of the replica, or is refused: with `Full` where it holds as many blocks as it may; with `NotMine`
 /// for a beat of a replica that doesn't lead; with `BadHeight` for a block that climbs too far; with
-/// `WrongJustify` for a proposal of which a block justifies one below the lock; and for a block that the doorkeeper
+/// `WrongJustify` for a proposal that it would vote for, of which a block justifies one below the lock; and for a block that the doorkeeper
 /// doesn't let in with `Crowded`, or with `Memory` where it couldn't be counted. A block that is refused is lost, as on any
 /// network.
 ///

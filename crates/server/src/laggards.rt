@@ -4,10 +4,12 @@ ghost use Rattle.std.specs.Prelude.{◌≡◌, ◌&&◌, ◌==◌};
 ghost use Rattle.clock.specs.Pruning as pruning;
 
 use crate::stations::Station;
+use catching_up::is_beyond;
 use clock::lacks_next;
 use ids::{Height, MOST_REPLICAS, ReplicaId};
 use log::{Log, info, warn};
 use std::sync::Wait;
+use tuning::{BEHIND_TOLD_SECONDS, VAIN_SECONDS};
 
 /// How far a replica has executed, and up to where it has forgotten.
 #[derive(Clone, Copy)]
@@ -15,6 +17,8 @@ pub(crate) struct Reach {
     pub(crate) height: Height,
     pub(crate) horizon: Height,
     pub(crate) goes_on: bool,
+    /// Whether it is far behind, and asks others for what they recorded.
+    pub(crate) is_away: bool,
 }
 
 /// Whether a replica has executed nothing since it had come to a height, and lacks the next block where the
@@ -38,34 +42,63 @@ fn lowest_horizon<R: Wait>(rt: &R, stations: &[Station<'_>], but: ReplicaId) -> 
     lowest
 }
 
+/// The lowest heights that the replicas at the other stations recorded.
+fn recorded<R: Wait>(rt: &R, stations: &[Station<'_>], but: ReplicaId) -> [Height; MOST_REPLICAS] {
+    let mut recorded = [Height(u64::MAX); MOST_REPLICAS];
+    for (lowest, station) in recorded.iter_mut().zip(stations) {
+        if station.number() != but {
+            *lowest = station.recorder().lowest(rt);
+        }
+    }
+    recorded
+}
+
+/// How a replica gets on.
+#[derive(Clone, Copy, PartialEq, Eq)]
+enum Way {
+    /// With the others.
+    AtOne,
+    /// It is far behind, and takes what others recorded.
+    CatchesUp,
+    /// It is far behind, and what others recorded brought nothing for some time.
+    InVain,
+    /// None of the others has the next block that it needs any more, and it isn't on its way to it.
+    Stuck,
+}
+
 /// What was seen of a replica.
 #[derive(Clone, Copy)]
 struct Seen {
     height: Height,
-    is_stuck: bool,
+    way: Way,
+    /// For how many seconds it has been far behind, and executed nothing.
+    still: u64,
+    /// For how many seconds it has been far behind.
+    away: u64,
 }
 
-/// Which replicas were seen to be stuck: none of the others has the next block that they need any more, and
-/// it isn't on its way to them.
+/// How replicas were seen to get on.
 #[derive(Clone, Copy)]
 pub(crate) struct Laggards {
     seen: [Seen; MOST_REPLICAS],
 }
 
 impl Laggards {
-    /// None is.
+    /// All with the others.
     pub(crate) fn none() -> Laggards {
         let seen = Seen {
             height: Height(0),
-            is_stuck: false,
+            way: Way::AtOne,
+            still: 0,
+            away: 0,
         };
         Laggards {
             seen: [seen; MOST_REPLICAS],
         }
     }
 
-    /// Looks at all replicas. Warns of each that is stuck now and wasn't when it was looked at last, and tells
-    /// where one has got on.
+    /// Looks at all replicas, a second after the last look. Warns of each that is stuck now and wasn't when it was looked at
+    /// last, and tells of those that catch up, and where one has got on.
     pub(crate) fn look<R: Wait + Log>(&mut self, rt: &R, stations: &[Station<'_>]) {
         for station in stations {
             let place = usize::from(station.number().0);
@@ -73,6 +106,19 @@ impl Laggards {
                 self.seen[place] = look_at(rt, stations, station, before);
             }
         }
+    }
+}
+
+/// How a replica gets on that has been still for so many seconds, where nobody keeps what it needs, or some do.
+fn way_of(reach: Reach, is_stuck: bool, still: u64) -> Way {
+    if is_stuck {
+        Way::Stuck
+    } else if !reach.is_away {
+        Way::AtOne
+    } else if still >= VAIN_SECONDS {
+        Way::InVain
+    } else {
+        Way::CatchesUp
     }
 }
 
@@ -86,20 +132,48 @@ fn look_at<R: Wait + Log>(
     let number = station.number();
     let horizon = lowest_horizon(rt, stations, number);
     let reach = station.reach(rt);
-    let (height, goes_on) = (reach.height, reach.goes_on);
-    let is_stuck = is_stuck(reach, before.height, horizon);
-    if goes_on {
-        tell(rt, number, before.is_stuck, is_stuck);
+    let is_still = reach.is_away && reach.height == before.height;
+    let still = if is_still {
+        before.still.saturating_add(1)
+    } else {
+        0
+    };
+    let is_stuck = is_stuck(reach, before.height, horizon)
+        && is_beyond(reach.height, &recorded(rt, stations, number));
+    let seen = Seen {
+        height: reach.height,
+        way: way_of(reach, is_stuck, still),
+        still,
+        away: if reach.is_away {
+            before.away.saturating_add(1)
+        } else {
+            0
+        },
+    };
+    if reach.goes_on {
+        tell(rt, station, before, seen);
     }
-    Seen { height, is_stuck }
+    seen
 }
 
-/// Tells that a replica is stuck, or has got on.
-fn tell<R: Log>(rt: &R, number: ReplicaId, was_stuck: bool, is_stuck: bool) {
-    if is_stuck && !was_stuck {
-        warn!(rt; "replica {} is stuck: the others have forgotten blocks that it needs", number.0);
+/// Tells of what has changed; and now and then how far one is that catches up.
+fn tell<R: Log>(rt: &R, station: &Station<'_>, before: Seen, now: Seen) {
+    let number = station.number().0;
+    if now.way == Way::CatchesUp && before.away % BEHIND_TOLD_SECONDS == 0 {
+        let foremost = station.comeback().foremost();
+        let behind = foremost.0.saturating_sub(now.height.0);
+        let rate = now.height.0.saturating_sub(before.height.0);
+        info!(rt; "replica {number} is {behind} heights behind, and catches up, {rate} a second");
     }
-    if was_stuck && !is_stuck {
-        info!(rt; "replica {} goes on again", number.0);
+    if now.way == before.way {
+        return;
+    }
+    match now.way {
+        Way::AtOne => info!(rt; "replica {number} goes on again"),
+        Way::InVain =>
+            warn!(rt; "replica {number} is stuck: what others recorded isn't right for it"),
+        Way::Stuck =>
+            warn!(rt; "replica {number} is stuck: the others have forgotten blocks that it needs"),
+        Way::CatchesUp => {}
     }
 }

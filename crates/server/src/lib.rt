@@ -3,6 +3,7 @@
 #![tactic(auto)]
 
 mod client_seat;
+mod comeback;
 mod doubts;
 mod ending;
 mod floods;
@@ -14,6 +15,7 @@ mod lying;
 mod outside;
 mod passed_over;
 mod passing;
+mod recorder;
 mod roll;
 mod running;
 mod stations;

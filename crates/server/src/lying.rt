@@ -1,11 +1,15 @@
 //! The way out of a replica that lies.
 
+use crate::recorder::Recorder;
 use bytes::Bytes;
-use fabric::{Links, Outgoing, Questioned};
-use ids::ReplicaId;
+use catching_up::Question;
+use fabric::{Links, Outgoing, Questioned, Recording};
+use ids::{Digest, Height, ReplicaId};
 use liars::{Lies, Lying};
 use signed_frames::Sending;
-use std::alloc::Global;
+use std::alloc::{AllocError, Global};
+use std::sync::atomic::AtomicU64;
+use std::sync::atomic::Ordering::SeqCst;
 use std::sync::{Mutex, Wait};
 use std::time::{Clock, Duration, Instant};
 
@@ -16,6 +20,56 @@ pub(crate) struct LiarStart {
     pub(crate) lying: Lying,
     /// After how many seconds it falls silent. None for never.
     pub(crate) until: Option<u64>,
+    /// Whether it answers wrongly what others ask of its record. Else it doesn't answer.
+    pub(crate) answers: bool,
+}
+
+/// A copy of a frame, of which the last byte is another.
+fn with_other_end(alloc: Global, frame: &Bytes) -> Result<Bytes, AllocError> {
+    let mut bytes = Vec::from_slice(alloc, frame.as_slice())?;
+    if let Some(last) = bytes.last_mut() {
+        *last = last.wrapping_add(1);
+    }
+    Ok(Bytes::from_vec(bytes)?)
+}
+
+/// How the frames of an answer are wrong.
+#[derive(Clone, Copy)]
+enum Wrong {
+    /// None is there.
+    Nothing,
+    /// The first lacks.
+    Gap,
+    /// All have other bytes.
+    Bytes,
+    /// They are the oldest.
+    Old,
+}
+
+impl Wrong {
+    /// How those of the answer of this number are.
+    fn of(number: u64) -> Wrong {
+        match number % 4 {
+            0 => Wrong::Nothing,
+            1 => Wrong::Gap,
+            2 => Wrong::Bytes,
+            _ => Wrong::Old,
+        }
+    }
+
+    /// Wrong ones in place of these.
+    fn frames(self, alloc: Global, frames: Vec<Bytes>) -> Result<Vec<Bytes>, AllocError> {
+        let mut wrong = Vec::new(alloc);
+        for (place, frame) in frames.into_iter().enumerate() {
+            match self {
+                Wrong::Nothing => {}
+                Wrong::Gap if place == 0 => {}
+                Wrong::Bytes => wrong.push(with_other_end(alloc, &frame)?)?,
+                Wrong::Gap | Wrong::Old => wrong.push(frame)?,
+            }
+        }
+        Ok(wrong)
+    }
 }
 
 /// The links, behind a liar.
@@ -28,15 +82,27 @@ pub(crate) struct LyingOut<'a, C> {
     lying: Mutex<Lying>,
     until: Option<u64>,
     links: &'a Links,
+    own: ReplicaId,
+    recorder: &'a Recorder,
+    answers: bool,
+    /// How many answers it gave.
+    answered: AtomicU64,
 }
 
 impl<'a, C: Clock> LyingOut<'a, C> {
     /// The way out of a liar that begins now.
-    pub(crate) fn new(clock: &'a C, liar: LiarStart, links: &'a Links) -> LyingOut<'a, C> {
+    pub(crate) fn new(
+        clock: &'a C,
+        liar: LiarStart,
+        links: &'a Links,
+        own: ReplicaId,
+        recorder: &'a Recorder,
+    ) -> LyingOut<'a, C> {
         let LiarStart {
             alloc,
             lying,
             until,
+            answers,
         } = liar;
         LyingOut {
             clock,
@@ -45,7 +111,33 @@ impl<'a, C: Clock> LyingOut<'a, C> {
             lying: Mutex::new(lying),
             until,
             links,
+            own,
+            recorder,
+            answers,
+            answered: AtomicU64::new(0),
         }
+    }
+
+    /// Answers a question wrongly.
+    fn answer_wrongly<R: Wait>(
+        &self,
+        rt: &R,
+        from: ReplicaId,
+        question: Question,
+    ) -> Result<(), AllocError> {
+        let wrong = Wrong::of(self.answered.fetch_add(1, SeqCst));
+        let asked = match wrong {
+            Wrong::Old => Question {
+                from: Height(0),
+                ..question
+            },
+            _ => question,
+        };
+        let mut answer = self.recorder.answer(rt, self.alloc, asked)?;
+        answer.question = question;
+        answer.frames = wrong.frames(self.alloc, answer.frames)?;
+        let _lost = self.links.answer(rt, self.own, from, answer);
+        Ok(())
     }
 
     /// Whether the liar has fallen silent.
@@ -74,6 +166,21 @@ impl<'a, C: Clock> Outgoing for LyingOut<'a, C> {
         }
         for sending in out {
             self.links.send(rt, from, sending);
+        }
+    }
+}
+
+/// It never comes back where it fell behind.
+impl<C: Clock> Recording for LyingOut<'_, C> {
+    fn record<R: Wait>(&self, rt: &R, bytes: &Bytes, voted: Option<Digest>) {
+        if self.answers {
+            self.recorder.record(rt, bytes, voted);
+        }
+    }
+
+    fn answer<R: Wait + Clock>(&self, rt: &R, _alloc: Global, from: ReplicaId, question: Question) {
+        if self.answers && !self.is_silent() {
+            let _lost = self.answer_wrongly(rt, from, question);
         }
     }
 }

@@ -6,8 +6,9 @@ use crate::stations::Station;
 use asking::{Ask, BlockCopy};
 use authenticators::VerifyingKeyring;
 use bytes::Bytes;
-use fabric::{Links, Outgoing, Questioned, ReplicaSet};
-use ids::{Digest, ReplicaId, View};
+use catching_up::Question;
+use fabric::{Links, Outgoing, Questioned, Recording, ReplicaSet};
+use ids::{Digest, Height, ReplicaId, View};
 use signed_frames::Sending;
 use std::alloc::{AllocError, Global};
 use std::sync::Wait;
@@ -52,6 +53,45 @@ impl<'s, 'a> Outside<'s, 'a> {
         match passed {
             Some(passed) => u64::try_from(passed.as_millis()).unwrap_or(u64::MAX),
             None => 0,
+        }
+    }
+}
+
+/// What it recorded, and how it comes back, has locks of its own.
+impl Recording for Outside<'_, '_> {
+    fn record<R: Wait>(&self, rt: &R, bytes: &Bytes, voted: Option<Digest>) {
+        self.station.recorder().record(rt, bytes, voted);
+    }
+
+    fn reach(&self) -> Option<Height> {
+        self.station.comeback().reach()
+    }
+
+    fn answer<R: Wait + Clock>(&self, rt: &R, alloc: Global, from: ReplicaId, question: Question) {
+        let recorder = self.station.recorder();
+        if !recorder.may_answer(from, self.now(rt)) {
+            return;
+        }
+        if let Ok(answer) = recorder.answer(rt, alloc, question) {
+            let _lost = self.links.answer(rt, self.station.number(), from, answer);
+        }
+    }
+
+    fn awaits<R: Wait>(&self, rt: &R, question: &Question) -> bool {
+        self.station.comeback().awaits(rt, question)
+    }
+
+    fn answered<R: Wait + Clock>(&self, rt: &R, question: &Question) {
+        let (now, height) = (self.now(rt), self.station.height(rt));
+        let comeback = self.station.comeback();
+        comeback.answered(rt, now, height, question);
+        self.catch_up(rt);
+    }
+
+    fn catch_up<R: Wait + Clock>(&self, rt: &R) {
+        let (now, height) = (self.now(rt), self.station.height(rt));
+        if let Some(question) = self.station.comeback().look(rt, now, height) {
+            let _lost = self.links.ask(rt, self.station.number(), question);
         }
     }
 }

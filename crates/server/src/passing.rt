@@ -1,6 +1,6 @@
 //! Which replicas a leader does without.
 
-ghost use Rattle.std.specs.Prelude.{◌≡◌, ◌||◌, ◌<◌, ◌≤◌, ℕ, true, replicate};
+ghost use Rattle.std.specs.Prelude.{◌≡◌, ◌||◌, ◌<◌, ◌≤◌, ℕ, true, get_or, replicate};
 ghost use Rattle.std.specs.Bool.{OnFalse, OnTrue};
 ghost use Rattle.ids.specs.declared.limits.TheConstants.{MOST_REPLICAS};
 ghost use Rattle.fabric.specs.ReplicaSets.{is_in, nobody, size};
@@ -137,6 +137,10 @@ impl Passing {
 
     /// A replica told that votes of these weren't right for it.
     pub(crate) fn hear(&mut self, from: ReplicaId, voters: &ReplicaSet)
+        ensures heard { OnFalse (is_in self.old.unheard from)
+            (from < MOST_REPLICAS → size voters.now ≤ self.old.most → Has self.new.voters voters.now) }
+        ensures told { from < MOST_REPLICAS → Has (get_or self.new.told from nobody) voters.now }
+        ensures teller { from < MOST_REPLICAS → is_in self.new.tellers from ≡ true }
         ensures unheard { OnTrue (is_in self.old.unheard from)
             ((voter : ℕ) → voter < MOST_REPLICAS → is_in self.new.voters voter ≡ true
             → (is_in self.old.voters voter || is_sure self.old.most self.new.told voter) ≡ true) }

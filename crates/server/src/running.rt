@@ -120,7 +120,7 @@ fn start_station<'s, 'k, E, R: Wait + Clock + Sync + Send + AllocGlobal + Log + 
     let links: &Links = &deployment.links;
     let mut all_started = true;
     for worker in workers {
-        let started = scope.spawn(move || run_worker(rt, station, links, worker));
+        let started = scope.spawn(move || run_worker(rt, station, links, worker, stop));
         all_started = all_started && started.is_ok();
     }
     let timed = scope.spawn(move || deployment.keep(rt, stations, station, stop));

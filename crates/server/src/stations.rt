@@ -11,12 +11,14 @@ ghost use Rattle.std.specs.List.{range_with_len};
 ghost use Rattle.ids.specs.Sizes.{replicas};
 ghost use Rattle.marks.specs.Eyes.{first_eye};
 
+use crate::comeback::Comeback;
 use crate::doubts::Doubts;
 use crate::guarded::Guarded;
 use crate::laggards::Reach;
 use crate::lying::{LiarStart, LyingOut};
 use crate::outside::Outside;
 use crate::passed_over::PassedOver;
+use crate::recorder::Recorder;
 use crate::terms::{Liars, Terms};
 use crate::trouble::TroubleSign;
 use crate::watching::Progress;
@@ -28,7 +30,7 @@ use doorkeeper::Doorkeeper;
 use fabric::{Base, Inbox, Links, WaitingRoom, Worker};
 use ids::{Fault, Height, MOST_REPLICAS, ReplicaId, View};
 use key_file::PairKeys;
-use liars::Lying;
+use liars::{Liar, Lie, Lying};
 use locked_replica::Kept;
 use marks::{Eye, Marks};
 use replica::Archived;
@@ -38,8 +40,9 @@ use std::hash::RandomState;
 use std::sync::atomic::Ordering::SeqCst;
 use std::sync::atomic::{AtomicBool, AtomicU64};
 use std::sync::{Arc, Mutex, MutexGuard, Wait};
-use std::time::Clock;
-use tuning::{LEAD_CLIMB, LEAD_PART, MOST_CLIMB};
+use std::thread;
+use std::time::{Clock, Duration};
+use tuning::{LEAD_CLIMB, LEAD_PART, LOOK_MILLIS, MOST_CLIMB};
 use turns::Open;
 
 /// A replica under its lock, behind its doorkeeper, and where what is for it comes out.
@@ -56,6 +59,10 @@ pub(crate) struct Station<'a> {
     doubts: Doubts,
     trouble: TroubleSign,
     passed_over: PassedOver,
+    recorder: Recorder,
+    comeback: Comeback,
+    /// Up to which height others are to have executed before its workers begin.
+    late: Option<Height>,
     inbox: Arc<Inbox>,
     room: WaitingRoom,
 }
@@ -104,6 +111,21 @@ impl<'a> Station<'a> {
         &self.passed_over
     }
 
+    /// What it recorded for others.
+    pub(crate) fn recorder(&self) -> &Recorder {
+        &self.recorder
+    }
+
+    /// How it comes back where it fell behind.
+    pub(crate) fn comeback(&self) -> &Comeback {
+        &self.comeback
+    }
+
+    /// The height of the last block that the replica has executed.
+    pub(crate) fn height<R: Wait>(&self, rt: &R) -> Height {
+        self.locked.lock(rt).replica().height()
+    }
+
     /// Whether there is trouble around the replica.
     pub(crate) fn trouble(&self) -> &TroubleSign {
         &self.trouble
@@ -122,6 +144,7 @@ impl<'a> Station<'a> {
             height: replica.height(),
             horizon: replica.horizon(),
             goes_on: guarded.stopped().is_none(),
+            is_away: self.comeback.is_away(),
         }
     }
 }
@@ -156,17 +179,28 @@ impl<'s, 'a> Timed<'s, 'a> {
             climb: above.saturating_add(further).min(most),
         }
     }
+
+    /// Where the replica is far behind, it is to look whether it asks others for what they recorded.
+    fn catch_up<R: Wait>(&self, rt: &R) {
+        let height = Height(self.station.shown.load(SeqCst));
+        let shown = self.shown();
+        let all = shown.get(..usize::from(self.links.config().n()));
+        if self.station.comeback.see(rt, height, all.unwrap_or(&[])) {
+            let _ = self.links.catch_up(rt, self.station.number);
+        }
+    }
 }
 
-/// What a link doesn't take is lost.
+/// What a link doesn't take is lost. While the replica is far behind, nothing waits for it, and it leads nobody.
 impl<'s, 'a> Watched for Timed<'s, 'a> {
     fn pulse<R: Wait>(&self, rt: &R) -> Pulse {
+        let is_here = !self.station.comeback.is_away();
         let guarded = self.station.locked.lock(rt);
         let replica = guarded.replica();
         Pulse {
-            wants_beat: replica.wants_beat(),
-            wants_beat_now: replica.wants_beat_now(),
-            pending: replica.pending() as u64,
+            wants_beat: is_here && replica.wants_beat(),
+            wants_beat_now: is_here && replica.wants_beat_now(),
+            pending: if is_here { replica.pending() as u64 } else { 0 },
             view: replica.view(),
             executed: replica.executed() as u64,
             height: replica.height(),
@@ -185,6 +219,7 @@ impl<'s, 'a> Watched for Timed<'s, 'a> {
     }
 
     fn hand_in<R: Wait>(&self, rt: &R, due: Due) {
+        self.catch_up(rt);
         let view = self.station.trouble.view();
         self.station.passed_over.ask(rt, view);
         if due.beat {
@@ -221,12 +256,26 @@ impl<'s, 'a> Watched for Timed<'s, 'a> {
     }
 }
 
+/// Waits until others are as far as they are to be before a station's workers begin, or it is told to stop.
+fn wait_for_others<R: Wait + Clock>(rt: &R, station: &Station<'_>, stop: &AtomicBool) {
+    let Some(height) = station.late else {
+        return;
+    };
+    for _ in rt.forever() {
+        if station.comeback.foremost().0 >= height.0 || stop.load(SeqCst) {
+            break;
+        }
+        thread::sleep(rt, Duration::from_millis(LOOK_MILLIS));
+    }
+}
+
 /// Works at a station until it is told to stop.
 pub(crate) fn run_worker<R: Wait + Clock + AllocGlobal>(
     rt: &R,
     station: &Station<'_>,
     links: &Links,
     worker: WorkerStart,
+    stop: &AtomicBool,
 ) {
     let WorkerStart {
         share,
@@ -234,6 +283,7 @@ pub(crate) fn run_worker<R: Wait + Clock + AllocGlobal>(
         liar,
     } = worker;
     let (alloc, gate) = (rt.alloc(), Open);
+    wait_for_others(rt, station, stop);
     let mut steps = &station.locked;
     let _share = match liar {
         None => {
@@ -242,7 +292,7 @@ pub(crate) fn run_worker<R: Wait + Clock + AllocGlobal>(
             worker.run(rt, &mut steps, share)
         }
         Some(liar) => {
-            let out = LyingOut::new(rt, liar, links);
+            let out = LyingOut::new(rt, liar, links, station.number, &station.recorder);
             let worker = Worker::new(alloc, keyring, &gate, &station.inbox, &out, &station.room);
             worker.run(rt, &mut steps, share)
         }
@@ -280,6 +330,7 @@ fn liar_start(
         alloc,
         lying,
         until,
+        answers: liars.liar == Liar::Plain(Lie::WrongRecords),
     })
 }
 
@@ -410,6 +461,9 @@ fn build_station<'a>(
         doubts: Doubts::none(),
         trouble: TroubleSign::none(),
         passed_over: PassedOver::none(keys.config()),
+        recorder: Recorder::new(alloc, keys.config(), terms.record)?,
+        comeback: Comeback::none(keys.config(), number),
+        late: terms.late_of(keys.config(), number),
         inbox,
         room: WaitingRoom::new(alloc, keys.config(), terms.workers.count()),
     };

@@ -4,7 +4,7 @@ ghost use Rattle.std.specs.Prelude.{◌≡◌, ◌^◌, ◌-◌, unwrap_or};
 ghost use Rattle.server.specs.Keeping as keeping;
 
 use clock::Keep;
-use ids::{Config, MOST_BLOCKS, ReplicaId};
+use ids::{Config, Height, MOST_BLOCKS, ReplicaId};
 use liars::Liar;
 use std::hash::RandomState;
 use tuning::MOST_KEPT;
@@ -58,6 +58,12 @@ pub struct Terms {
     /// How many it keeps at most for replicas that are behind. None for the part of `MOST_KEPT` that is one's among the
     /// replicas.
     pub window_most: Option<u64>,
+    /// How many megabytes each replica's record of frames may take, for others that fell behind. The bytes of a frame lie in
+    /// memory once for all replicas.
+    pub record: u64,
+    /// The workers of the last replica begin when more than f others have executed up to this height: for trying out how it
+    /// comes to them. None for at once.
+    pub late: Option<Height>,
     /// How many workers each replica has.
     pub workers: Workers,
     /// Each how many seconds a line is logged that tells how it goes. None for no lines.
@@ -77,6 +83,11 @@ impl Terms {
             Some(liars) if number.0 < liars.count => Some(liars),
             _ => None,
         }
+    }
+
+    /// Up to which height others are to have executed before a replica's workers begin.
+    pub(crate) fn late_of(&self, config: Config, number: ReplicaId) -> Option<Height> {
+        self.late.filter(|_| number.0 == config.n() - 1)
     }
 
     /// How many replicas are to lie.

@@ -88,6 +88,8 @@ where
         blocks: Some(BLOCKS),
         window: None,
         window_most: None,
+        record: 0,
+        late: None,
         workers: Workers::Two,
         watch: None,
         hasher: RandomState::new(rt)?,

@@ -1,12 +1,14 @@
 //! A deployment and its clients in one process: with no liar, and with each that is as plain; one whose replicas forget what
 //! is a few heights below; one whose replicas have one worker each; one of seven replicas; one with a client that lies;
-//! and one whose replicas may hold few blocks.
+//! one whose replicas may hold few blocks; and one of whom one begins late.
 //! What each client reads is printed.
 #![tactic(auto)]
 
 mod ending;
+mod late;
 
 use crate::ending::end_of_few_blocks;
+use crate::late::late_replica;
 use anyhow::Result;
 use audit::{Verdict, WindowVerdict};
 use ids::Config;
@@ -223,6 +225,8 @@ impl Trial {
             blocks: None,
             window: None,
             window_most: None,
+            record: 16,
+            late: None,
             workers: Workers::Two,
             watch: None,
             hasher,
@@ -274,5 +278,6 @@ fn main(rt: HostRuntime) -> Result<()> {
         }
     }
     let keys = keys(rt.alloc(), Config::new(1, 1)?)?;
-    end_of_few_blocks(&rt, &keys)
+    end_of_few_blocks(&rt, &keys)?;
+    late_replica(&rt, &keys)
 }

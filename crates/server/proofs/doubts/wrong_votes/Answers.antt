@@ -1,15 +1,26 @@
-use Rattle.std.proofs.Common.{◌≡◌, ap, subst, ◌∙◌}
+use Rattle.std.proofs.Common.{◌≡◌, ◌||◌, not, ap, subst, sym, ◌∙◌}
 use Rattle.std.specs.List.{AllByRecursion}
 use Rattle.definitions.specs.FrameLimits.{IsVote}
+use Rattle.fabric.specs.ReplicaSets.{is_in}
 use Rattle.frames_view.specs.Views.{certificate_of, votes_left}
+use Rattle.server.specs.Doubting.{is_wrong}
+use Rattle.server.proofs.Doubting.{right-one}
+use Rattle.server.proofs.Sets.{nobody-in}
 use Rattle.server.proofs.doubts.wrong_votes.Goals as goal
 
 pub loop-vote-init : goal.loop-vote-init
 loop-vote-init c =
     let all : votes_left c.into_iter-vote-iterator.result ≡ (certificate_of c.args.certificate.now).votes =
-    ap votes_left c.into_iter-vote-iterator.ensures.into_iter_gives ∙ c.votes-vote-items.ensures.value in
-    rw all c.requires.votes
+    ap votes_left c.into_iter-vote-iterator.ensures.into_iter_gives ∙ c.votes-vote-items.ensures.value in (
+      rw all c.requires.votes,
+      (λ voter low. rw all (rw c.none-wrong.ensures
+          (ap (λ b. b || is_wrong c.args.keyring.now (certificate_of c.args.certificate.now) voter) (nobody-in voter low)))),
+    )
 
 pub loop-vote-preserved : goal.loop-vote-preserved
-loop-vote-preserved c =
-    (subst (AllByRecursion (IsVote c.args.keyring.now.sizes)) c.in-Some.ensures.steps c.loop-vote.invariant).1
+loop-vote-preserved c = (
+  (subst (AllByRecursion (IsVote c.args.keyring.now.sizes)) c.in-Some.ensures.steps c.loop-vote.invariant.0).1,
+  (λ voter low. right-one (is_in c.loop-vote.wrong voter) c.args.keyring.now c.args.certificate.now.digest.now voter _
+      (votes_left c.next.new.self) (votes_left c.loop-vote.vote-iterator) c.in-Some.ensures.steps
+      (ap not (sym c.vote_is_right.ensures ∙ c.if-not-vote_is_right.false)) ∙ c.loop-vote.invariant.1 voter low),
+)

@@ -1,0 +1,78 @@
+//! A deployment whose last replica begins when its link is full, and the others have forgotten the first blocks: it comes to
+//! them by what they recorded.
+
+use crate::ask;
+use anyhow::Result;
+use ids::Height;
+use key_file::PairKeys;
+use server::{EndAudit, Terms, Workers, run};
+use std::hash::RandomState;
+use std::io::Write;
+use std::net::{Net, SocketAddr, TcpListener, TcpStream};
+use std::thread;
+use std::thread::join;
+use std::time::Duration;
+
+/// So many sets of the longest data, a block each at least: some 3,400 of them fill the link of who is away.
+const SETS: u32 = 4600;
+
+/// The others have executed so many heights when it begins.
+const LATE: u64 = 4200;
+
+/// Seconds in which it comes to the others, when nothing else is to do.
+const CALM: u64 = 5;
+
+/// The longest data that a key may have.
+const LONGEST: usize = 4096;
+
+/// A client that sets one key again and again, waits, and leaves. How many of its sets were stored.
+fn client<R: Net<Stream = TcpStream> + Wait + Clock + AllocGlobal>(
+    rt: &R,
+    at: SocketAddr,
+) -> Result<u32> {
+    let alloc = rt.alloc();
+    let mut words = String::new(alloc);
+    write!(words, "set a 0 0 {LONGEST}\r\n")?;
+    for _ in 0..LONGEST {
+        words.push('x')?;
+    }
+    words.push_str("\r\n")?;
+    let stream = TcpStream::connect(rt, at)?;
+    let mut stored = 0;
+    for _ in 0..SETS {
+        if ask(alloc, &stream, words.as_str())?.as_str() == "STORED\r\n" {
+            stored += 1;
+        }
+    }
+    thread::sleep(rt, Duration::from_secs(CALM));
+    (&mut &stream).write_all("quit\r\n".as_bytes())?;
+    Ok(stored)
+}
+
+/// Runs it, and tells what its client read, and what is said of its replicas' windows: who isn't among the others at the end
+/// can't be compared with them.
+pub(crate) fn late_replica(rt: &HostRuntime, keys: &PairKeys) -> Result<()> {
+    println!(rt; "a replica that begins late")?;
+    let listener = TcpListener::bind(rt, "127.0.0.1:0")?;
+    let at = listener.local_addr()?;
+    let terms = Terms {
+        liars: None,
+        liar_clients: 0,
+        most: 1,
+        blocks: None,
+        window: Some(64),
+        window_most: Some(64),
+        record: 64,
+        late: Some(Height(LATE)),
+        workers: Workers::One,
+        watch: None,
+        hasher: RandomState::new(rt)?,
+    };
+    let (ended, stored) = join(rt, || run(rt, keys, &listener, terms), || client(rt, at));
+    println!(rt; "{} of {SETS} stored", stored?)?;
+    match ended?.audit {
+        EndAudit::Windows(verdict) => println!(rt; "windows: {verdict:?}")?,
+        EndAudit::Whole(_) | EndAudit::Part { .. } => println!(rt; "some forgot nothing")?,
+    }
+    Ok(())
+}
