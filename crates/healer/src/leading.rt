@@ -85,7 +85,7 @@ pub(crate) fn over_lock(healer: &Healer<'_>, leader: ReplicaId) -> Result<(Diges
     if replica.horizon().0 > 0 {
         return Err(Fault::Pruned);
     }
-    Ok(replica.over_lock().unwrap_or(genesis))
+    Ok(replica.over_lock())
 }
 
 /// The digest of the block that a replica is locked on.

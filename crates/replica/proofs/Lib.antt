@@ -27,3 +27,4 @@ pub mod Careful
 pub mod Grounded
 pub mod Keeping
 pub mod Sized
+pub mod Locked

@@ -48,7 +48,7 @@ keys-entries : (cs : List Command) → map (λ (e : Entry). (e.client, e.seq)) (
 keys-entries [] = refl
 keys-entries (k ∷ cs) = ap (λ (l : List (ℕ × ℕ)). key_of k ∷ l) (keys-entries cs)
 
-map-reverse : {A B : Type 0} (f : A → B) (xs : List A) → map f (reverse xs) ≡ reverse (map f xs)
+pub map-reverse : {A B : Type 0} (f : A → B) (xs : List A) → map f (reverse xs) ≡ reverse (map f xs)
 map-reverse f [] = refl
 map-reverse {A} f (x ∷ xs) =
     ap (map f) (reverse-append (x ∷ []) xs) ∙ map-append f (reverse xs) (x ∷ [])

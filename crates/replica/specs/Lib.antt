@@ -19,3 +19,4 @@ pub mod Inputs
 pub mod Wanting
 pub mod Careful
 pub mod Prunings
+pub mod Locked

@@ -2,11 +2,13 @@
 
 ghost use Rattle.std.specs.Prelude.{◌≡◌, ◌≤◌, ◌-◌, ◌++◌, reverse, map, [], option_map, IfOk, OnOk};
 ghost use Rattle.std.specs.Option.{option_and_then};
+ghost use Rattle.definitions.specs.Branches.{Branch};
 ghost use Rattle.definitions.specs.Digests.{digest_of, core_of as block_core};
 ghost use Rattle.definitions.specs.Trees.{blocks, find_in};
 ghost use Rattle.frames_view.specs.Views.{commands_left, core_of};
 ghost use Rattle.replica.specs.Careful as careful;
 ghost use Rattle.replica.specs.Execution.{seen_at, block_at, history_above};
+ghost use Rattle.replica.specs.Locked.{HasBlock, over_by, over_in};
 ghost use Rattle.replica.specs.Picks.{key_of, keys_of};
 
 use block_tree::{Node, Tree};
@@ -53,7 +55,10 @@ pub(crate) fn justifies_below(tree: &Tree, core: &CoreView<'_>, least: Height) -
 }
 
 /// The block that this one of the tree justifies, with its height, where that justifies the lower one.
-fn justified_over(tree: &Tree, block: &Digest, lower: &Digest) -> Option<(Digest, Height)> {
+fn justified_over(tree: &Tree, block: &Digest, lower: &Digest) -> Option<(Digest, Height)>
+    ensures { (x y : Branch) → HasBlock tree.now.stored x block.now → HasBlock tree.now.stored y lower.now
+        → result ≡ over_by y x }
+{
     let (first, height) = tree.justified(block)?;
     let (second, _) = tree.justified(&first)?;
     if second == *lower {
@@ -65,11 +70,14 @@ fn justified_over(tree: &Tree, block: &Digest, lower: &Digest) -> Option<(Digest
 
 /// A block that justifies the one of this digest and is itself justified, with its height: by the oldest block of the
 /// tree over such a one.
-pub(crate) fn over_block(tree: &Tree, lower: &Digest) -> Option<(Digest, Height)> {
-    for newer in (0..tree.len() - 1).rev() {
-        let over = justified_over(tree, &tree.nth_newest(newer).digest(), lower);
-        if over.is_some() {
-            return over;
+pub(crate) fn over_block(tree: &Tree, lower: &Digest) -> Option<(Digest, Height)>
+    ensures { (y : Branch) → HasBlock tree.now.stored y lower.now → result ≡ over_in y tree.now.stored }
+{
+    let count = tree.len() - 1;
+    for older in 0..count {
+        let block = tree.nth_newest(count - 1 - older).digest();
+        if let Some(over) = justified_over(tree, &block, lower) {
+            return Some(over);
         }
     }
     None

@@ -2,7 +2,7 @@
 
 ghost use Rattle.std.specs.Prelude.{◌≡◌, ◌<◌, ◌&&◌, ◌⊎◌, [], length, reverse, suc, IsTrue, IsOk, IfOk, IfErr};
 ghost use Rattle.std.specs.Prelude.{OnErr};
-ghost use Rattle.std.specs.Prelude.{◌↔◌, false, IsNone, option_map};
+ghost use Rattle.std.specs.Prelude.{◌↔◌, false, IsNone, Some, option_map};
 ghost use Rattle.ids.specs.Sizes.{IsRoom, HasNoRoom, replicas};
 ghost use Rattle.audit_ground.specs.Law.{IsLawfullyKept};
 ghost use Rattle.definitions.specs.Checks.{identity_of};
@@ -14,6 +14,7 @@ ghost use Rattle.definitions.specs.Replicas.{running, held_history, held_pending
 ghost use Rattle.definitions.specs.Sendings.{fetch_frame};
 ghost use Rattle.definitions.specs.States.{find_block, is_known, leaf, view};
 ghost use Rattle.replica.specs.Execution.{seen_at};
+ghost use Rattle.replica.specs.Locked.{over_lock};
 ghost use Rattle.std.specs.Option.{option_and_then};
 ghost use Rattle.definitions.specs.WindowAudit.{shown_at};
 ghost use Rattle.frames_view.specs.Views.{core_of};
@@ -33,7 +34,6 @@ ghost use Rattle.replica.specs.Replay.{is_pruning, replay};
 use crate::announce::{decide_new_view, decide_seen_view, decide_timeout};
 use crate::beat::{decide_beat, leads};
 use crate::blocks::decide_block;
-use crate::branch::over_block;
 use crate::change::Change;
 use crate::chronicle::ChronicleView;
 use crate::execution::execute;
@@ -422,9 +422,17 @@ impl Replica {
     }
 
     /// A block of the window that justifies its lock and is justified itself, with its height: by the oldest block over
-    /// such a one. None where no block of the window stands so over the lock.
-    pub fn over_lock(&self) -> Option<(Digest, Height)> {
-        over_block(&self.state.tree, &self.state.rules.lock().digest)
+    /// such a one. Genesis where no block of the window stands so over the lock.
+    ///
+    /// What was pruned may have stood so, which the answer doesn't tell.
+    pub fn over_lock(&self) -> (Digest, Height)
+        ensures found { horizon self.now.replica.chronicle ≡ 0
+            → find_block result.0 self.now.replica.chronicle ≡ Some (over_lock self.now.replica.chronicle) }
+        ensures high { horizon self.now.replica.chronicle ≡ 0
+            → result.1 ≡ length (over_lock self.now.replica.chronicle) }
+    {
+        let over = self.state.over_lock();
+        over.unwrap_or((genesis_digest(), Height(0)))
     }
 
     /// The digest of the block of a height on the branch of a block of its window, as far as the window reaches.

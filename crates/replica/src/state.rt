@@ -3,6 +3,7 @@
 ghost use Rattle.std.specs.Prelude.{◌≡◌, ◌≤◌, false, length, reverse, option_map, IfOk, OnOk, OnErr};
 ghost use Rattle.std.specs.Prelude.{◌↔◌, IsTrue, IsSome};
 ghost use Rattle.std.specs.Option.{unwrap_or, option_and_then};
+ghost use Rattle.definitions.specs.Branches.{Branch};
 ghost use Rattle.definitions.specs.Chronicles.{stored_blocks};
 ghost use Rattle.definitions.specs.Digests.{digest_of};
 ghost use Rattle.definitions.specs.Trees.{Stored, blocks, find_in};
@@ -10,10 +11,11 @@ ghost use Rattle.frames_view.specs.Views.{core_of};
 ghost use Rattle.replica.specs.Careful as careful;
 ghost use Rattle.replica.specs.Changes.{changed, tree_after, collected, pended, left_above, MayGrow, Fits};
 ghost use Rattle.replica.specs.Execution.{seen_at};
+ghost use Rattle.replica.specs.Locked.{HasBlock, over_in};
 ghost use Rattle.replica.specs.Logs.{Logs};
 ghost use Rattle.replica.specs.Replay.{is_pruning, replay};
 
-use crate::branch::{digest_at, justifies_below};
+use crate::branch::{digest_at, justifies_below, over_block};
 use crate::change::{Change, Growth};
 use crate::chronicle::ChronicleView;
 use crate::step_log::StepLog;
@@ -197,6 +199,17 @@ impl State {
             (option_and_then (seen_at v.horizon height) (find_in block.now (blocks v.stored)))) }
     {
         digest_at(&self.tree, block, height)
+    }
+
+    /// A block that justifies the lock and is itself justified, with its height: by the oldest block of the tree over
+    /// such a one.
+    pub(crate) fn over_lock(&self) -> Option<(Digest, Height)>
+        ensures { (
+            let v = self.now.variables in
+            (lock : Branch) → HasBlock v.stored lock v.rules.lock.digest → result ≡ over_in lock v.stored) }
+    {
+        let lock = self.rules.lock();
+        over_block(&self.tree, &lock.digest)
     }
 
     /// Whether the block of a core, on its parent in the tree, or one between it and the block that it justifies,
