@@ -81,13 +81,6 @@ impl HeldKeys {
         })
     }
 
-    /// Whose keys they are.
-    pub fn holder(&self) -> Holder
-        ensures { result ≡ self.now.holder }
-    {
-        self.holder
-    }
-
     /// The sizes of the deployment.
     pub fn config(&self) -> Config
         ensures { result ≡ self.now.all.sizes }
