@@ -2,6 +2,8 @@
 use Rattle.std.proofs.Common.{◌≡◌, ℕ, zero, suc, ◌+◌, ◌-◌, ◌<◌, add-zero, zero-add, List, [], ◌∷◌, ◌++◌}
 use Rattle.std.proofs.Common.{length, drop, Some, None, arith, sym, refl, ◌∙◌, ap, append_assoc}
 use Rattle.std.specs.List.{flat_map, range_with_len}
+use Rattle.std.specs.Prelude.{filter, Bool, true, false}
+use Rattle.std.proofs.lemmas.List.Elements.{filter-append}
 use Rattle.std.proofs.lemmas.Grind.{flat_map-append}
 use Rattle.ids.specs.Sizes.{Sizes, replicas, client_party}
 use Rattle.std.specs.Prelude.{IfOk, Result, Ok, Err}
@@ -12,7 +14,7 @@ use Rattle.std.proofs.Math.Seq.{drop-append_seam}
 use Rattle.hex.specs.Hex.{encode_lower}
 use Rattle.definitions.specs.Bytes.{Bytes}
 use Rattle.key_file.specs.declared.pair_key.PairKey.{PairKey}
-use Rattle.key_file.specs.KeyFile.{AreOf, IsKey, IsFileOf, line_of, key_line, key_end, number_text}
+use Rattle.key_file.specs.KeyFile.{AreOf, IsKey, line_of, key_line, key_end, number_text}
 use Rattle.key_file.specs.KeyFile.{pairs_with, pairs_of, pairs}
 use Rattle.key_file.specs.Reading.{Reads, HasNo, IsKeyAt}
 use Rattle.key_file.proofs.Lines.{length-key}
@@ -96,18 +98,33 @@ none_before ps qs text none =
 
 -- ---- one line
 
-pub one_read : (text rest : Bytes) (k : PairKey) → IsKey k.key → text ≡ line_of k ++ rest
+one_read : (text rest : Bytes) (k : PairKey) → IsKey k.key → text ≡ line_of k ++ rest
     → Reads ((k.one, k.other) ∷ []) text (k ∷ []) rest
 one_read text rest k fits e =
     record { are = (refl, refl, fits, tt); is = e ∙ ap (λ t. t ++ rest) (sym (append-nil (line_of k))) }
 
-pub none_read : (text : Bytes) (one other : ℕ) → IsKeyAt (key_line one other) text None
+none_read : (text : Bytes) (one other : ℕ) → IsKeyAt (key_line one other) text None
     → HasNo ((one, other) ∷ []) text
 none_read text one other none [] rest all = absurd all.are
 none_read text one other none (k ∷ l ∷ ks) rest all = absurd all.are.3
 none_read text one other none (k ∷ []) rest all =
     none k.key rest all.are.2
     (all.is ∙ ap (λ t. t ++ rest) (append-nil (line_of k)) ∙ rw (all.are.0, all.are.1) refl)
+
+-- the line of a pair that is kept, or of one that isn't
+pub nothing_read : (p : ℕ × ℕ → Bool) (one other : ℕ) (text : Bytes) → p (one, other) ≡ false
+    → Reads (filter p ((one, other) ∷ [])) text [] text
+nothing_read p one other text out = rw out (record { are = tt; is = refl })
+
+pub pair_read : (p : ℕ × ℕ → Bool) (one other : ℕ) (text rest key : Bytes) → p (one, other) ≡ true
+    → IsKeyAt (key_line one other) text (Some (key, rest))
+    → Reads (filter p ((one, other) ∷ [])) text (record { one = one; other = other; key = key } ∷ []) rest
+pair_read p one other text rest key kept line =
+    rw kept (one_read text rest (record { one = one; other = other; key = key }) line.0 line.1)
+
+pub no_pair : (p : ℕ × ℕ → Bool) (one other : ℕ) (text : Bytes) → p (one, other) ≡ true
+    → IsKeyAt (key_line one other) text None → HasNo (filter p ((one, other) ∷ [])) text
+no_pair p one other text kept none = rw kept (none_read text one other none)
 
 -- ---- the lines of a party
 
@@ -121,27 +138,37 @@ pairs_split one first (suc i) more =
     let f : first + 1 + i ≡ first + suc i = omega arith in
     rw e (ap (λ ps. (one, first) ∷ ps) (rw f at ih))
 
-pub one_more : (one first i : ℕ) (text rest more key : Bytes) (read : List PairKey)
-    → Reads (pairs_with one first i) text read rest
-    → IsKeyAt (key_line one (first + i)) rest (Some (key, more))
-    → Reads (pairs_with one first (i + 1)) text
-    (read ++ record { one = one; other = first + i; key = key } ∷ []) more
-one_more one first i text rest more key read so_far line =
-    rw (pairs_split one first i 1)
-    (read_both (pairs_with one first i) ((one, first + i) ∷ []) text rest more read
-    (record { one = one; other = first + i; key = key } ∷ []) so_far
-    (one_read rest more (record { one = one; other = first + i; key = key }) line.0 line.1))
+-- a row of which some pairs have lines, cut in two
+kept_split : (p : ℕ × ℕ → Bool) (one first i more : ℕ)
+    → filter p (pairs_with one first (i + more))
+    ≡ filter p (pairs_with one first i) ++ filter p (pairs_with one (first + i) more)
+kept_split p one first i more =
+    ap (filter p) (pairs_split one first i more)
+    ∙ filter-append p (pairs_with one first i) (pairs_with one (first + i) more)
 
-pub none_at : (one first i count : ℕ) (text rest : Bytes) (read : List PairKey) → i < count
-    → Reads (pairs_with one first i) text read rest
-    → IsKeyAt (key_line one (first + i)) rest None → HasNo (pairs_with one first count) text
-none_at one first i count text rest read below so_far none =
-    let e : count ≡ i + suc (count - suc i) = omega arith in
-    rw (e, pairs_split one first i (suc (count - suc i)))
-    (none_behind (pairs_with one first i) (pairs_with one (first + i) (suc (count - suc i))) text rest read
-    so_far
-    (none_before ((one, first + i) ∷ []) (pairs_with one (first + i + 1) (count - suc i)) rest
-    (none_read rest one (first + i) none)))
+pub one_more : (p : ℕ × ℕ → Bool) (one first i : ℕ) (text rest more : Bytes) (read row : List PairKey)
+    → Reads (filter p (pairs_with one first i)) text read rest
+    → Reads (filter p ((one, first + i) ∷ [])) rest row more
+    → Reads (filter p (pairs_with one first (i + 1))) text (read ++ row) more
+one_more p one first i text rest more read row so_far next =
+    rw (kept_split p one first i 1)
+    (read_both (filter p (pairs_with one first i)) (filter p ((one, first + i) ∷ [])) text rest more read row
+    so_far next)
+
+pub none_at : (p : ℕ × ℕ → Bool) (one first i count : ℕ) (text rest : Bytes) (read : List PairKey) → i < count
+    → Reads (filter p (pairs_with one first i)) text read rest
+    → HasNo (filter p ((one, first + i) ∷ [])) rest → HasNo (filter p (pairs_with one first count)) text
+none_at p one first i count text rest read below so_far none =
+    let left = count - suc i in
+    let e : count ≡ i + suc left = omega arith in
+    let later = pairs_with one (first + i + 1) left in
+    let front = filter p (pairs_with one first i) in
+    let here = filter p ((one, first + i) ∷ []) in
+    let whole : filter p (pairs_with one first count) ≡ front ++ (here ++ filter p later)
+    = ap (λ n. filter p (pairs_with one first n)) e ∙ kept_split p one first i (suc left)
+    ∙ ap (λ ps. front ++ ps) (filter-append p ((one, first + i) ∷ []) later) in
+    rw whole (none_behind front (here ++ filter p later) text rest read so_far
+    (none_before here (filter p later) rest none))
 
 -- ---- the lines of all replicas
 
@@ -166,35 +193,54 @@ rows_split sizes i more =
     ap (flat_map (pairs_of sizes)) (rw zero-add at e)
     ∙ flat_map-append (pairs_of sizes) (range_with_len 0 i) (range_with_len i more)
 
-pub one_more_row : (sizes : Sizes) (i : ℕ) (text rest more : Bytes) (read row : List PairKey)
-    → Reads (pairs_before sizes i) text read rest
-    → Reads (pairs_of sizes i) rest row more → Reads (pairs_before sizes (i + 1)) text (read ++ row) more
-one_more_row sizes i text rest more read row so_far next =
-    rw (rows_split sizes i 1, append-nil (pairs_of sizes i))
-    (read_both (pairs_before sizes i) (pairs_of sizes i) text rest more read row so_far next)
+-- the lines of the first so many replicas
+abbrev pub lines_before : (ℕ × ℕ → Bool) → Sizes → ℕ → List (ℕ × ℕ)
+lines_before p sizes i = filter p (pairs_before sizes i)
+
+lines_split : (p : ℕ × ℕ → Bool) (sizes : Sizes) (i more : ℕ)
+    → lines_before p sizes (i + more)
+    ≡ lines_before p sizes i ++ filter p (flat_map (pairs_of sizes) (range_with_len i more))
+lines_split p sizes i more =
+    ap (filter p) (rows_split sizes i more)
+    ∙ filter-append p (pairs_before sizes i) (flat_map (pairs_of sizes) (range_with_len i more))
+
+pub one_more_row : (p : ℕ × ℕ → Bool) (sizes : Sizes) (i : ℕ) (text rest more : Bytes) (read row : List PairKey)
+    → Reads (lines_before p sizes i) text read rest
+    → Reads (filter p (pairs_of sizes i)) rest row more
+    → Reads (lines_before p sizes (i + 1)) text (read ++ row) more
+one_more_row p sizes i text rest more read row so_far next =
+    rw (lines_split p sizes i 1, append-nil (pairs_of sizes i))
+    (read_both (lines_before p sizes i) (filter p (pairs_of sizes i)) text rest more read row so_far next)
+
+-- the text is a file of these keys
+abbrev IsOf : (ℕ × ℕ → Bool) → Sizes → List PairKey → Bytes → Type 0
+IsOf p sizes keys text = AreOf (filter p (pairs sizes)) keys × (text ≡ flat_map line_of keys)
 
 -- no file: a row is missing
-pub no_row : (sizes : Sizes) (i : ℕ) (text rest : Bytes) (read : List PairKey) → i < replicas sizes
-    → Reads (pairs_before sizes i) text read rest
-    → HasNo (pairs_of sizes i) rest → (keys : List PairKey) → IsFileOf sizes keys text → ⊥
-no_row sizes i text rest read below so_far none keys file =
-    let e : replicas sizes ≡ i + suc (replicas sizes - suc i) = omega arith in
-    let all : AreOf (pairs_before sizes i
-    ++ flat_map (pairs_of sizes) (range_with_len i (suc (replicas sizes - suc i)))) keys
-    = rw (← rows_split sizes i (suc (replicas sizes - suc i)), ← e) file.0 in
-    none_behind (pairs_before sizes i)
-    (flat_map (pairs_of sizes) (range_with_len i (suc (replicas sizes - suc i)))) text rest read so_far
-    (none_before (pairs_of sizes i)
-    (flat_map (pairs_of sizes) (range_with_len (i + 1) (replicas sizes - suc i))) rest none)
-    keys [] (record { are = all; is = file.1 ∙ sym (append-nil (flat_map line_of keys)) })
+pub no_row : (p : ℕ × ℕ → Bool) (sizes : Sizes) (i : ℕ) (text rest : Bytes) (read : List PairKey)
+    → i < replicas sizes → Reads (lines_before p sizes i) text read rest
+    → HasNo (filter p (pairs_of sizes i)) rest → (keys : List PairKey) → IsOf p sizes keys text → ⊥
+no_row p sizes i text rest read below so_far none keys file =
+    let left = replicas sizes - suc i in
+    let later = flat_map (pairs_of sizes) (range_with_len (i + 1) left) in
+    let e : replicas sizes ≡ i + suc left = omega arith in
+    let split = lines_split p sizes i (suc left) in
+    let behind = filter-append p (pairs_of sizes i) later in
+    let whole : filter p (pairs sizes)
+    ≡ lines_before p sizes i ++ (filter p (pairs_of sizes i) ++ filter p later)
+    = ap (lines_before p sizes) e ∙ split ∙ ap (λ ps. lines_before p sizes i ++ ps) behind in
+    none_behind (lines_before p sizes i) (filter p (pairs_of sizes i) ++ filter p later) text rest read so_far
+    (none_before (filter p (pairs_of sizes i)) (filter p later) rest none)
+    keys [] (record { are = rw (← whole) file.0; is = file.1 ∙ sym (append-nil (flat_map line_of keys)) })
 
 -- no file: something stands behind all lines
-pub too_long : (sizes : Sizes) (text rest : Bytes) (read : List PairKey)
-    → Reads (pairs sizes) text read rest → (rest ≡ [] → ⊥)
-    → (keys : List PairKey) → IsFileOf sizes keys text → ⊥
-too_long sizes text rest read so_far some keys file =
-    let all : AreOf (pairs sizes ++ []) keys = rw (append-nil (pairs sizes)) file.0 in
-    let left = behind_front (pairs sizes) [] rest [] read keys so_far.are all
+pub too_long : (p : ℕ × ℕ → Bool) (sizes : Sizes) (text rest : Bytes) (read : List PairKey)
+    → Reads (filter p (pairs sizes)) text read rest → (rest ≡ [] → ⊥)
+    → (keys : List PairKey) → IsOf p sizes keys text → ⊥
+too_long p sizes text rest read so_far some keys file =
+    let lines = filter p (pairs sizes) in
+    let all : AreOf (lines ++ []) keys = rw (append-nil lines) file.0 in
+    let left = behind_front lines [] rest [] read keys so_far.are all
     (sym so_far.is ∙ file.1 ∙ sym (append-nil (flat_map line_of keys))) in
     some (nothing left.0 rest left.1)
   where
@@ -203,24 +249,45 @@ too_long sizes text rest read so_far some keys file =
     nothing (l ∷ ls) t r = absurd r.are
 
 -- all of the text is read
-pub whole_file : (sizes : Sizes) (text rest : Bytes) (read : List PairKey)
-    → Reads (pairs sizes) text read rest → rest ≡ [] → IsFileOf sizes read text
-whole_file sizes text rest read so_far end =
+pub whole_file : (p : ℕ × ℕ → Bool) (sizes : Sizes) (text rest : Bytes) (read : List PairKey)
+    → Reads (filter p (pairs sizes)) text read rest → rest ≡ [] → IsOf p sizes read text
+whole_file p sizes text rest read so_far end =
     (so_far.are, so_far.is ∙ ap (λ t. flat_map line_of read ++ t) end ∙ append-nil (flat_map line_of read))
 
 -- ---- a row, of two parts
 
-pub row_read : (sizes : Sizes) (one p q m k : ℕ) (text mid : Bytes) (old some all : List PairKey)
-    (r : Result (Bor Bytes) KeyFileFault)
-    → p ≡ one → q ≡ client_party 0 → m ≡ replicas sizes - one → k ≡ sizes.clients
-    → (x : List PairKey) × (some ≡ old ++ x) × Reads (pairs_with p p m) text x mid
-    → IfOk r (λ rest. (x : List PairKey) × (all ≡ some ++ x) × Reads (pairs_with p q k) mid x rest.now)
-    → IfOk r (λ rest. (x : List PairKey) × (all ≡ old ++ x) × Reads (pairs_of sizes one) text x rest.now)
-row_read sizes one p q m k text mid old some all (Err fault) ep eq em ek first second = tt
-row_read sizes one p q m k text mid old some all (Ok rest) ep eq em ek first second =
-    let both =
-    read_both (pairs_with p p m) (pairs_with p q k) text mid rest.now first.0 second.0 first.2 second.2 in (
-      first.0 ++ second.0,
-      second.1 ∙ ap (λ ks. ks ++ second.0) first.1 ∙ append_assoc old first.0 second.0,
-      rw (ep, eq, em, ek) at both,
+pub row_read : (p : ℕ × ℕ → Bool) (sizes : Sizes) (one own first m k : ℕ) (text mid : Bytes)
+    (old some all : List PairKey) (r : Result (Bor Bytes) KeyFileFault)
+    → own ≡ one → first ≡ client_party 0 → m ≡ replicas sizes - one → k ≡ sizes.clients
+    → (x : List PairKey) × (some ≡ old ++ x) × Reads (filter p (pairs_with own own m)) text x mid
+    → IfOk r (λ rest. (x : List PairKey) × (all ≡ some ++ x) × Reads (filter p (pairs_with own first k)) mid x rest.now)
+    → IfOk r (λ rest. (x : List PairKey) × (all ≡ old ++ x)
+    × Reads (filter p (pairs_of sizes one)) text x rest.now)
+row_read p sizes one own first m k text mid old some all (Err fault) eo ef em ek front behind = tt
+row_read p sizes one own first m k text mid old some all (Ok rest) eo ef em ek front behind =
+    let both = read_both (filter p (pairs_with own own m)) (filter p (pairs_with own first k)) text mid rest.now
+    front.0 behind.0 front.2 behind.2 in
+    let parts = filter-append p (pairs_with one one (replicas sizes - one))
+    (pairs_with one (client_party 0) sizes.clients) in (
+      front.0 ++ behind.0,
+      behind.1 ∙ ap (λ ks. ks ++ behind.0) front.1 ∙ append_assoc old front.0 behind.0,
+      rw parts (rw (eo, ef, em, ek) at both),
     )
+
+-- a row without lines in its first part, or in its second
+pub no_front : (p : ℕ × ℕ → Bool) (sizes : Sizes) (one : ℕ) (text : Bytes)
+    → HasNo (filter p (pairs_with one one (replicas sizes - one))) text
+    → HasNo (filter p (pairs_of sizes one)) text
+no_front p sizes one text none =
+    let own = pairs_with one one (replicas sizes - one) in
+    let clients = pairs_with one (client_party 0) sizes.clients in
+    rw (filter-append p own clients) (none_before (filter p own) (filter p clients) text none)
+
+pub no_back : (p : ℕ × ℕ → Bool) (sizes : Sizes) (one : ℕ) (text mid : Bytes) (keys : List PairKey)
+    → Reads (filter p (pairs_with one one (replicas sizes - one))) text keys mid
+    → HasNo (filter p (pairs_with one (client_party 0) sizes.clients)) mid
+    → HasNo (filter p (pairs_of sizes one)) text
+no_back p sizes one text mid keys front none =
+    let own = pairs_with one one (replicas sizes - one) in
+    let clients = pairs_with one (client_party 0) sizes.clients in
+    rw (filter-append p own clients) (none_behind (filter p own) (filter p clients) text mid keys front none)

@@ -1,18 +1,19 @@
--- Which parties share a key: each replica with each party, and nobody else.
-use Rattle.std.proofs.Common.{◌≡◌, ℕ, zero, suc, ◌+◌, ◌-◌, ◌<◌, ◌≤◌, Bool, true, false, ◌&&◌, ◌==◌, cond}
+-- Which parties share a key: each replica with each party, as far as the holder has it.
+use Rattle.std.proofs.Common.{◌≡◌, ℕ, ◌+◌, ◌-◌, ◌<◌, ◌≤◌, Bool, true, false, ◌&&◌, ◌||◌, ◌==◌, cond}
 use Rattle.std.proofs.Common.{List, [], ◌∷◌, ◌++◌, Option, Some, None, arith, refl, ◌∙◌, ap, append_assoc}
-use Rattle.std.proofs.Common.{inl, inr, min, max, add-zero}
-use Rattle.std.specs.Prelude.{Result, Err, option_map, find, IsSome, is_some, ◌⊎◌, if◌then◌else◌}
-use Rattle.std.specs.List.{flat_map, range_with_len, list_all}
-use Rattle.std.proofs.lemmas.Bool.{eq-eqb, and_parts}
+use Rattle.std.proofs.Common.{min, max, suc}
+use Rattle.std.specs.Prelude.{option_map, find, filter, IsSome, is_some, nat_le}
+use Rattle.std.specs.List.{flat_map, range_with_len}
+use Rattle.std.proofs.lemmas.Bool.{eq-eqb}
 use Rattle.std.proofs.lemmas.Bool.Decides.{nat_tests}
-use Rattle.std.proofs.lemmas.List.Folds.{list_all-append}
+use Rattle.std.proofs.lemmas.List.Elements.{filter-append}
 use Rattle.ids.specs.Sizes.{Sizes, replicas, client_party}
 use Rattle.definitions.specs.Keyrings.{is_replica_of, is_client_of, is_party_of}
+use Rattle.key_file.specs.declared.holder.Holder.{Holder}
+use Rattle.key_file.specs.declared.holder.Holder.TheVariants.{Everyone}
 use Rattle.key_file.specs.declared.pair_key.PairKey.{PairKey}
+use Rattle.key_file.specs.Holders.{acts_for, has_pair, pairs_held}
 use Rattle.key_file.specs.KeyFile.{AreOf, HasKeys, pairs_with, pairs_of, pairs, found_key}
-use Rattle.ids.specs.declared.fault.Fault.{Fault}
-use Rattle.ids.specs.declared.fault.Fault.TheVariants.{Memory, NoSuchParty}
 use Rattle.key_file.proofs.Files.{pairs_split, pairs_before, rows_split}
 
 -- the key is that of this pair
@@ -35,6 +36,15 @@ found_among [] after x y (k ∷ ks) are =
 found_among (p ∷ ps) after x y (k ∷ ks) are =
     first_or (of_pair x y k) k (find (of_pair x y) ks) (found_among ps after x y ks are.3)
 
+-- and so it has among those that are kept
+found_kept : (kept : ℕ × ℕ → Bool) (before after : List (ℕ × ℕ)) (x y : ℕ) (keys : List PairKey)
+    → kept (x, y) ≡ true → AreOf (filter kept (before ++ (x, y) ∷ after)) keys
+    → is_some (find (of_pair x y) keys) ≡ true
+found_kept kept before after x y keys is are =
+    let whole : filter kept (before ++ (x, y) ∷ after) ≡ filter kept before ++ (x, y) ∷ filter kept after
+    = filter-append kept before ((x, y) ∷ after) ∙ rw is refl in
+    found_among (filter kept before) (filter kept after) x y keys (rw whole at are)
+
 -- two parties stand in a row: at the place of the second one
 row_at : (one first i more : ℕ) → pairs_with one first (i + suc more)
     ≡ pairs_with one first i ++ (one, first + i) ∷ pairs_with one (first + i + 1) more
@@ -54,9 +64,10 @@ rows_at sizes x below =
     ap (pairs_before sizes) e ∙ rows_split sizes x (suc (replicas sizes - suc x))
 
 -- a replica and one that isn't before it
-replicas_found : (sizes : Sizes) (x y : ℕ) (keys : List PairKey) → AreOf (pairs sizes) keys
+replicas_found : (kept : ℕ × ℕ → Bool) (sizes : Sizes) (x y : ℕ) (keys : List PairKey)
+    → AreOf (filter kept (pairs sizes)) keys → kept (x, y) ≡ true
     → x ≤ y → y < replicas sizes → is_some (find (of_pair x y) keys) ≡ true
-replicas_found sizes x y keys are low high =
+replicas_found kept sizes x y keys are is low high =
     let n = replicas sizes in
     let more = flat_map (pairs_of sizes) (range_with_len (x + 1) (n - suc x)) in
     let clients = pairs_with x (client_party 0) sizes.clients in
@@ -70,12 +81,13 @@ replicas_found sizes x y keys are low high =
     rows_at sizes x (omega arith)
     ∙ ap (λ r. pairs_before sizes x ++ ((r ++ clients) ++ more)) row
     ∙ simp append_assoc in
-    found_among (pairs_before sizes x ++ front) (behind ++ (clients ++ more)) x y keys (rw all at are)
+    found_kept kept (pairs_before sizes x ++ front) (behind ++ (clients ++ more)) x y keys is (rw all at are)
 
 -- a replica and a client
-client_found : (sizes : Sizes) (x c : ℕ) (keys : List PairKey) → AreOf (pairs sizes) keys
+client_found : (kept : ℕ × ℕ → Bool) (sizes : Sizes) (x c : ℕ) (keys : List PairKey)
+    → AreOf (filter kept (pairs sizes)) keys → kept (x, client_party c) ≡ true
     → x < replicas sizes → c < sizes.clients → is_some (find (of_pair x (client_party c)) keys) ≡ true
-client_found sizes x c keys are low high =
+client_found kept sizes x c keys are is low high =
     let n = replicas sizes in
     let more = flat_map (pairs_of sizes) (range_with_len (x + 1) (n - suc x)) in
     let own = pairs_with x x (n - x) in
@@ -89,66 +101,8 @@ client_found sizes x c keys are low high =
     rows_at sizes x low
     ∙ ap (λ r. pairs_before sizes x ++ ((own ++ r) ++ more)) row
     ∙ simp append_assoc in
-    found_among (pairs_before sizes x ++ (own ++ front)) (behind ++ more) x (client_party c) keys
+    found_kept kept (pairs_before sizes x ++ (own ++ front)) (behind ++ more) x (client_party c) keys is
     (rw all at are)
-
--- ---- no other pair has one
-
--- the second of a pair is a party
-abbrev has_party : Sizes → ℕ × ℕ → Bool
-has_party sizes p = is_party_of sizes p.1
-
-not_first : (sizes : Sizes) (x y : ℕ) (p : ℕ × ℕ) (k : PairKey) (later : Option PairKey) → k.other ≡ p.1
-    → has_party sizes p ≡ true → is_party_of sizes y ≡ false → is_some later ≡ false
-    → is_some (cond (of_pair x y k) (Some k) later) ≡ false
-not_first sizes x y p k later second party out none = by (of_pair x y k) refl
-  where
-    by : (is : Bool) → of_pair x y k ≡ is → is_some (cond is (Some k) later) ≡ false
-    by true is =
-        let same = and_parts (k.one == x) (k.other == y) is in
-        let other : p.1 ≡ y = grind (arith, nat_tests) in
-        let there : is_party_of sizes y ≡ true = rw other at party in
-        absurd (cc (there, out))
-    by false is = none
-
-none_found : (sizes : Sizes) (x y : ℕ) (ps : List (ℕ × ℕ)) (keys : List PairKey) → AreOf ps keys
-    → list_all (has_party sizes) ps ≡ true → is_party_of sizes y ≡ false
-    → is_some (find (of_pair x y) keys) ≡ false
-none_found sizes x y [] [] are all out = refl
-none_found sizes x y [] (k ∷ ks) are all out = absurd are
-none_found sizes x y (p ∷ ps) [] are all out = absurd are
-none_found sizes x y (p ∷ ps) (k ∷ ks) are all out =
-    let both = and_parts (has_party sizes p) (list_all (has_party sizes) ps) all in
-    not_first sizes x y p k (find (of_pair x y) ks) are.1 both.0 out
-    (none_found sizes x y ps ks are.3 both.1 out)
-
-with_parties : (sizes : Sizes) (one first count : ℕ)
-    → ((k : ℕ) → k < count → is_party_of sizes (first + k) ≡ true)
-    → list_all (has_party sizes) (pairs_with one first count) ≡ true
-with_parties sizes one first zero each = refl
-with_parties sizes one first (suc count) each =
-    let here : is_party_of sizes first ≡ true = rw add-zero at (each 0 (omega arith)) in
-    let more = with_parties sizes one (first + 1) count
-    (λ k below. let e : first + 1 + k ≡ first + suc k = omega arith in rw e (each (suc k) (omega arith))) in
-    rw (here, more) refl
-
-row_of_parties : (sizes : Sizes) (one : ℕ) → list_all (has_party sizes) (pairs_of sizes one) ≡ true
-row_of_parties sizes one =
-    let own = with_parties sizes one one (replicas sizes - one) (λ k below. grind (arith, nat_tests)) in
-    let clients = with_parties sizes one (client_party 0) sizes.clients
-    (λ k below. grind (arith, nat_tests)) in
-    list_all-append (has_party sizes) (pairs_with one one (replicas sizes - one))
-    (pairs_with one (client_party 0) sizes.clients)
-    ∙ rw (own, clients) refl
-
-all_parties : (sizes : Sizes) (first count : ℕ)
-    → list_all (has_party sizes) (flat_map (pairs_of sizes) (range_with_len first count)) ≡ true
-all_parties sizes first zero = refl
-all_parties sizes first (suc count) =
-    let more = all_parties sizes (first + 1) count in
-    list_all-append (has_party sizes) (pairs_of sizes first)
-    (flat_map (pairs_of sizes) (range_with_len (first + 1) count))
-    ∙ rw (row_of_parties sizes first, more) refl
 
 -- ---- the keys of two parties
 
@@ -156,18 +110,20 @@ mapped : (o : Option PairKey) → is_some (option_map (λ k. k.key) o) ≡ is_so
 mapped None = refl
 mapped (Some k) = refl
 
--- a replica shares one with each party
-pub key_there : (sizes : Sizes) (keys : List PairKey) (a b : ℕ) → AreOf (pairs sizes) keys
+-- a replica shares one with each party, where that pair is kept
+pub key_there : (kept : ℕ × ℕ → Bool) (sizes : Sizes) (keys : List PairKey) (a b : ℕ)
+    → AreOf (filter kept (pairs sizes)) keys → kept (min a b, max a b) ≡ true
     → replicas sizes ≤ 256 → is_replica_of sizes a ≡ true → is_party_of sizes b ≡ true
     → IsSome (found_key keys a b)
-key_there sizes keys a b are few replica party = mapped (find (of_pair (min a b) (max a b)) keys) ∙ pair
+key_there kept sizes keys a b are is few replica party =
+    mapped (find (of_pair (min a b) (max a b)) keys) ∙ pair
   where
     by : (other : Bool) → is_replica_of sizes b ≡ other
         → is_some (find (of_pair (min a b) (max a b)) keys) ≡ true
     by true other =
         let first : a < replicas sizes = grind (arith, nat_tests) in
         let second : b < replicas sizes = grind (arith, nat_tests) in
-        replicas_found sizes (min a b) (max a b) keys are (omega arith) (omega arith)
+        replicas_found kept sizes (min a b) (max a b) keys are is (omega arith) (omega arith)
     by false other =
         let first : a < replicas sizes = grind (arith, nat_tests) in
         let client : is_client_of sizes b ≡ true = rw other at party in
@@ -175,79 +131,64 @@ key_there sizes keys a b are few replica party = mapped (find (of_pair (min a b)
         let high : b < 256 + sizes.clients = grind (arith, nat_tests) in
         let x : min a b ≡ a = omega arith in
         let y : max a b ≡ client_party (b - 256) = omega arith in
-        rw (x, y) (client_found sizes a (b - 256) keys are first (omega arith))
+        rw (x, y) (client_found kept sizes a (b - 256) keys are (rw (x, y) at is) first (omega arith))
 
     pair : is_some (find (of_pair (min a b) (max a b)) keys) ≡ true
     pair = by (is_replica_of sizes b) refl
 
-pub same_key : (keys : List PairKey) (a b : ℕ) → found_key keys a b ≡ found_key keys b a
+same_key : (keys : List PairKey) (a b : ℕ) → found_key keys a b ≡ found_key keys b a
 same_key keys a b =
     let x : min a b ≡ min b a = omega arith in
     let y : max a b ≡ max b a = omega arith in
     rw (x, y) refl
 
--- and who is no party shares none with the first replica
-pub no_key : (sizes : Sizes) (keys : List PairKey) (a : ℕ) → AreOf (pairs sizes) keys
-    → is_party_of sizes a ≡ false → is_some (found_key keys a 0) ≡ false
-no_key sizes keys a are out =
-    let y : max a 0 ≡ a = omega arith in
-    mapped (find (of_pair (min a 0) (max a 0)) keys)
-    ∙ rw y (none_found sizes (min a 0) a (pairs sizes) keys are (all_parties sizes 0 (replicas sizes)) out)
-
 -- ---- all keys of a party
 
--- a party shares one with each replica
-pub with_replicas : (sizes : Sizes) (keys : List PairKey) (party : ℕ) → AreOf (pairs sizes) keys
+or-true : (x : Bool) → (x || true) ≡ true
+or-true true = refl
+or-true false = refl
+
+-- a pair is kept where its holder acts for one of the two
+pair_kept : (holder : Holder) (a b : ℕ) → acts_for holder a ≡ true → has_pair holder (min a b, max a b) ≡ true
+pair_kept holder a b own = by (nat_le a b) refl
+  where
+    by : (is : Bool) → nat_le a b ≡ is → has_pair holder (min a b, max a b) ≡ true
+    by true is =
+        let x : min a b ≡ a = grind (arith, nat_tests) in
+        rw (x, own) refl
+    by false is =
+        let y : max a b ≡ a = grind (arith, nat_tests) in
+        rw (y, own) (or-true (acts_for holder (min a b)))
+
+pair_kept_of : (holder : Holder) (a b : ℕ) → acts_for holder b ≡ true → has_pair holder (min a b, max a b) ≡ true
+pair_kept_of holder a b own =
+    let x : min a b ≡ min b a = omega arith in
+    let y : max a b ≡ max b a = omega arith in
+    rw (x, y) (pair_kept holder b a own)
+
+-- a party that the holder acts for shares one with each replica
+pub with_replicas : (holder : Holder) (sizes : Sizes) (keys : List PairKey) (party : ℕ)
+    → AreOf (pairs_held holder sizes) keys → acts_for holder party ≡ true
     → replicas sizes ≤ 256 → is_party_of sizes party ≡ true → HasKeys keys party 0 (replicas sizes)
-with_replicas sizes keys party are few there = λ i below.
+with_replicas holder sizes keys party are own few there = λ i below.
     let place : 0 + i ≡ i = omega arith in
     let replica : is_replica_of sizes i ≡ true = grind (arith, nat_tests) in
-    rw (place, same_key keys party i) (key_there sizes keys i party are few replica there)
+    rw (place, same_key keys party i)
+    (key_there (has_pair holder) sizes keys i party are (pair_kept_of holder i party own) few replica there)
 
--- a replica shares one with each client
-pub with_clients : (sizes : Sizes) (keys : List PairKey) (party : ℕ) → AreOf (pairs sizes) keys
+-- and a replica with each client
+pub with_clients : (holder : Holder) (sizes : Sizes) (keys : List PairKey) (party : ℕ)
+    → AreOf (pairs_held holder sizes) keys → acts_for holder party ≡ true
     → replicas sizes ≤ 256 → party < replicas sizes → HasKeys keys party (client_party 0) sizes.clients
-with_clients sizes keys party are few low = λ i below.
+with_clients holder sizes keys party are own few low = λ i below.
     let replica : is_replica_of sizes party ≡ true = grind (arith, nat_tests) in
     let client : is_party_of sizes (client_party 0 + i) ≡ true = grind (arith, nat_tests) in
-    key_there sizes keys party (client_party 0 + i) are few replica client
+    key_there (has_pair holder) sizes keys party (client_party 0 + i) are
+    (pair_kept holder party (client_party 0 + i) own) few replica client
 
--- who shares one with the first replica is a party
-pub is_there : (sizes : Sizes) (keys : List PairKey) (party : ℕ) → AreOf (pairs sizes) keys
-    → IsSome (found_key keys party 0) → is_party_of sizes party ≡ true
-is_there sizes keys party are shared = by (is_party_of sizes party) refl
-  where
-    by : (is : Bool) → is_party_of sizes party ≡ is → is ≡ true
-    by true is = refl
-    by false is = let none = no_key sizes keys party are is in absurd (cc (none, shared))
+-- ---- everyone's file
 
--- a refusal of what gives nothing else
-abbrev pub Error : Fault → Result (Unit {0}) Fault
-Error fault = Err fault
-
--- why a party's keys with the replicas were refused
-pub why_not : (sizes : Sizes) (keys : List PairKey) (party first count : ℕ) (fault : Fault)
-    → AreOf (pairs sizes) keys → first ≡ 0 → count ≡ replicas sizes → replicas sizes ≤ 256
-    → (Error fault ≡ Error Memory) ⊎ (Error fault ≡ Error NoSuchParty)
-    → (Error fault ≡ Error Memory → IsSome (found_key keys party first))
-    → (Error fault ≡ Error NoSuchParty → HasKeys keys party first count → ⊥)
-    → fault ≡ (if is_party_of sizes party then Memory else NoSuchParty)
-why_not sizes keys party first count fault are begins ends few (inl memory) one all =
-    rw (is_there sizes keys party are (rw begins at (one memory))) (cc memory)
-why_not sizes keys party first count fault are begins ends few (inr missing) one all =
-    by (is_party_of sizes party) refl
-  where
-    by : (is : Bool) → is_party_of sizes party ≡ is → fault ≡ (if is then Memory else NoSuchParty)
-    by true is = absurd (all missing (rw (begins, ends) (with_replicas sizes keys party are few is)))
-    by false is = cc missing
-
--- and those of a replica with the clients
-pub why_no_more : (sizes : Sizes) (keys : List PairKey) (party first count : ℕ) (fault : Fault)
-    → AreOf (pairs sizes) keys → first ≡ client_party 0 → count ≡ sizes.clients → replicas sizes ≤ 256
-    → party < replicas sizes → (Error fault ≡ Error Memory) ⊎ (Error fault ≡ Error NoSuchParty)
-    → (Error fault ≡ Error NoSuchParty → HasKeys keys party first count → ⊥)
-    → fault ≡ (if is_party_of sizes party then Memory else NoSuchParty)
-why_no_more sizes keys party first count fault are begins ends few low (inl memory) all =
-    let there : is_party_of sizes party ≡ true = grind (arith, nat_tests) in rw there (cc memory)
-why_no_more sizes keys party first count fault are begins ends few low (inr missing) all =
-    absurd (all missing (rw (begins, ends) (with_clients sizes keys party are few low)))
+-- everyone has each pair
+pub all_kept : (ps : List (ℕ × ℕ)) → filter (has_pair Everyone) ps ≡ ps
+all_kept [] = refl
+all_kept (p ∷ ps) = ap (λ more. p ∷ more) (all_kept ps)

@@ -1,16 +1,15 @@
-ghost use Rattle.std.specs.Prelude.{◌≡◌, ◌==◌, ◌&&◌, ◌⊎◌, ◌≤◌, ◌++◌, find, option_map, List, IfOk, OnOk};
-ghost use Rattle.std.specs.Prelude.{OnErr, IsSome, IsTrue, if◌then◌else◌};
-ghost use Rattle.ids.specs.Sizes.{replicas, client_party};
-ghost use Rattle.definitions.specs.Bytes.{Bytes};
-ghost use Rattle.key_file.specs.KeyFile.{IsFileOf, HasKeys, found_key, keys_with, keys_of_party};
+ghost use Rattle.std.specs.Prelude.{◌≡◌, ◌==◌, ◌&&◌, find, option_map, List, IfOk, OnOk};
+ghost use Rattle.std.specs.Prelude.{OnErr, IsTrue, if◌then◌else◌};
+ghost use Rattle.key_file.specs.KeyFile.{IsFileOf, found_key, keys_of_party};
 ghost use Rattle.definitions.specs.Keyrings.{is_party_of, is_replica_of};
 ghost use Rattle.key_file.specs.declared.key_file.KeyFileFault.TheVariants as refusal;
 ghost use Rattle.key_file.specs.declared.pair_key.PairKey.{PairKey};
 
+use crate::held_keys::HeldKeys;
+use crate::holder::Holder;
 use crate::pair_key::PairKey;
-use crate::rows::read_row;
-use authenticators::{Keyring, ReplicaKeyring, SharedKey};
-use ids::{ClientId, Config, Fault, PartyId, ReplicaId};
+use authenticators::{Keyring, ReplicaKeyring};
+use ids::{Config, Fault, PartyId, ReplicaId};
 use std::alloc::{AllocFailed, Global};
 use std::error::Error;
 use std::fmt;
@@ -44,23 +43,6 @@ impl fmt::Display for KeyFileFault {
 
 impl Error for KeyFileFault {}
 
-/// The keys of all pairs of parties of a deployment.
-#[derive(Drop)]
-pub struct PairKeys {
-    config: Config,
-    keys: Vec<PairKey>,
-}
-
-impl Model for PairKeys {
-    ghost use Rattle.key_file.specs.KeyFile.{AllKeys, AreOf, pairs};
-
-    ghost Value = { AllKeys };
-
-    ghost view = { λ k. record { sizes = k.config; keys = k.keys.items } };
-
-    ghost invariant = { λ k. AreOf (pairs k.config) k.keys.items };
-}
-
 /// The first of some keys that is of these two parties, in this order.
 fn find_pair(keys: &[PairKey], one: PartyId, other: PartyId) -> Option<&PairKey>
     ensures { option_map (λ k. k.now) result ≡ find (λ k. (k.one == one) && (k.other == other)) keys.now }
@@ -79,6 +61,24 @@ pub fn find_key(keys: &[PairKey], a: PartyId, b: PartyId) -> Option<[u8; 32]>
     Some(key)
 }
 
+/// The keys of all pairs of parties of a deployment: those that everyone together holds.
+#[derive(Drop)]
+pub struct PairKeys {
+    held: HeldKeys,
+}
+
+impl Model for PairKeys {
+    ghost use Rattle.std.specs.Prelude.{◌≡◌};
+    ghost use Rattle.key_file.specs.KeyFile.{AllKeys};
+    ghost use Rattle.key_file.specs.declared.holder.Holder.TheVariants.{Everyone};
+
+    ghost Value = { AllKeys };
+
+    ghost view = { λ k. k.held.all };
+
+    ghost invariant = { λ k. k.held.holder ≡ Everyone };
+}
+
 impl PairKeys {
     /// Reads a key file of these sizes. All of the text is read.
     pub fn read(alloc: Global, config: Config, text: &[u8]) -> Result<PairKeys, KeyFileFault>
@@ -86,49 +86,15 @@ impl PairKeys {
         ensures bad { result ≡ Err KeyFileFault.NotOne → (keys : List PairKey)
             → IsFileOf config keys text.now → ⊥ }
     {
-        let mut rest = text;
-        let mut keys = Vec::new(alloc);
-        for one in 0..config.n() {
-            match read_row(rest, config, ReplicaId(one), &mut keys) {
-                Ok(behind) => rest = behind,
-                Err(fault) => return Err(fault),
-            }
-        }
-        if !rest.is_empty() {
-            return Err(KeyFileFault::NotOne);
-        }
-        Ok(PairKeys { config, keys })
+        let held = HeldKeys::read(alloc, Holder::Everyone, config, text)?;
+        Ok(PairKeys { held })
     }
 
     /// The sizes of the deployment.
     pub fn config(&self) -> Config
         ensures { result ≡ self.now.sizes }
     {
-        self.config
-    }
-
-    /// Appends a party's keys with so many parties from one on.
-    fn push_keys(
-        &self,
-        out: &mut Vec<SharedKey>,
-        party: PartyId,
-        first: PartyId,
-        count: u8,
-    ) -> Result<(), Fault>
-        requires { first ≤ client_party 0 }
-        ensures made { OnOk result
-            (out.new.items ≡ out.old.items ++ keys_with self.now.keys party first count) }
-        ensures there { OnOk result (HasKeys self.now.keys party first count) }
-        ensures memory { result ≡ Err Fault.Memory → IsSome (found_key self.now.keys party first) }
-        ensures missing { result ≡ Err Fault.NoSuchParty → HasKeys self.now.keys party first count → ⊥ }
-        ensures refused { OnErr result ((result ≡ Err Fault.Memory) ⊎ (result ≡ Err Fault.NoSuchParty)) }
-    {
-        for i in 0..u16::from(count) {
-            let peer = PartyId(first.0 + i);
-            let key = find_key(&self.keys, party, peer).ok_or(Fault::NoSuchParty)?;
-            out.push(SharedKey::new(key))?;
-        }
-        Ok(())
+        self.held.config()
     }
 
     /// The keyring of a party: its keys with each replica, then, where it is a replica, with each client.
@@ -140,13 +106,7 @@ impl PairKeys {
         ensures refused { OnErr result (result
             ≡ Err (if is_party_of self.now.sizes party then Fault.Memory else Fault.NoSuchParty)) }
     {
-        let config = self.config;
-        let mut keys = Vec::new(alloc);
-        self.push_keys(&mut keys, party, ReplicaId(0).into(), config.n())?;
-        if party.0 < u16::from(config.n()) {
-            self.push_keys(&mut keys, party, ClientId(0).into(), config.clients())?;
-        }
-        Ok(Keyring::new(config, party, keys))
+        self.held.keyring(alloc, party)
     }
 
     /// The keyring of a replica. `NoSuchParty` comes exactly where the deployment has no such replica, and else
@@ -160,7 +120,6 @@ impl PairKeys {
         ensures refused { OnErr result (result
             ≡ Err (if is_replica_of self.now.sizes replica then Fault.Memory else Fault.NoSuchParty)) }
     {
-        let keyring = self.keyring(alloc, replica.into())?;
-        ReplicaKeyring::new(keyring).ok_or(Fault::NoSuchParty)
+        self.held.replica_keyring(alloc, replica)
     }
 }

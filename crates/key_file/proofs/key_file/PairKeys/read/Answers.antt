@@ -1,22 +1,15 @@
-use Rattle.std.proofs.Common.{◌≡◌, arith}
-use Rattle.ids.specs.Sizes.{replicas}
-use Rattle.key_file.proofs.Files.{one_more_row, no_row, too_long}
+use Rattle.std.proofs.lemmas.Result.{err_from_is_err_and}
+use Rattle.key_file.specs.KeyFile.{pairs}
+use Rattle.key_file.proofs.Found.{all_kept}
 use Rattle.key_file.proofs.key_file.PairKeys.read.Goals as goal
 
-pub returns-in-Err-clause-bad : goal.returns-in-Err-clause-bad
-returns-in-Err-clause-bad c = λ same.
-    no_row c.args.config c.loop-one.one c.args.text.now c.loop-one.rest.now c.loop-one.keys.items
-    (omega arith) c.loop-one.invariant (c.in-Err.ensures.bad (cc same))
+pub returns-in_err-held-clause-bad : goal.returns-in_err-held-clause-bad
+returns-in_err-held-clause-bad c = λ same keys file.
+    let gave = err_from_is_err_and c.from_residual.result c.from_residual.ensures.1 in
+    c.in_err-held.ensures.bad (cc (gave.1, gave.2, same)) keys
+    (rw (all_kept (pairs c.args.config)) file.0, file.1)
 
-pub loop-one-preserved : goal.loop-one-preserved
-loop-one-preserved c =
-    let row = c.in-Ok.ensures.read in
-    rw row.1 (one_more_row c.args.config c.loop-one.one c.args.text.now c.loop-one.rest.now
-    c.in-Ok.behind.now c.loop-one.keys.items row.0 c.loop-one.invariant row.2)
-
-pub returns-then-not-is_empty-clause-bad : goal.returns-then-not-is_empty-clause-bad
-returns-then-not-is_empty-clause-bad c = λ same.
-    let last : c.loop-one.one ≡ replicas c.args.config = omega arith in
-    too_long c.args.config c.args.text.now c.loop-one.rest.now c.loop-one.keys.items
-    (rw last at c.loop-one.invariant)
-    (λ e. let empty = rw e at c.if-not-is_empty.ensures in cc empty)
+pub returns-clause-read : goal.returns-clause-read
+returns-clause-read c =
+    let file = c.in_ok-held.ensures.read in
+    (c.in_ok-held.ensures.sizes, (rw (all_kept (pairs c.args.config)) at file.0, file.1))
