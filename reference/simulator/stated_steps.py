@@ -46,6 +46,13 @@ def a_whole_block():
     return " ".join(["1 1 1 1"] + inputs)
 
 
+def a_proposal_by_each_share():
+    """Each of two workers of replica 1 brings the first proposal: both steps stand, and one vote goes out in all."""
+    config = Config(1, 1)
+    given = proposal_of(config, 0, Core(GENESIS, 1, 0), certificate_of(config, GENESIS, ())).hex()
+    return "1 1 1 2 0:1:%s 1:1:%s" % (given, given)
+
+
 def a_cut_certificate():
     """Replica 1 takes a block of version 1 whose certificate has four votes, of which one is spoilt for it. Asked for
     that block, it sends the other three, in version 2; and so it does in its announcement, once an announcement of
@@ -82,5 +89,5 @@ def a_step_with_many_votes(f):
 
 
 def all_cases():
-    return ([a_full_pool(), a_request_again(), a_whole_block()] + a_cut_certificate()
+    return ([a_full_pool(), a_request_again(), a_whole_block(), a_proposal_by_each_share()] + a_cut_certificate()
             + [first_steps(f) for f in (1, 4, 5, 10)] + [a_step_with_many_votes(f) for f in (5, 10)])

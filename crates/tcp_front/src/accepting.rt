@@ -97,7 +97,7 @@ fn accept_all<'s, E, R: Threads + Wait + Clock + Sync + AllocGlobal + Log, S: Se
     Ok(most)
 }
 
-/// Serves so many connections, those for which there was no seat included, and answers how many they were.
+/// Serves so many connections, those for which there was no seat included, and answers that number.
 ///
 /// Each takes a free seat for its time, and is served in a thread of its own. Where none is free it
 /// is told `SERVER_ERROR too many connections` and closed. `AcceptFailed` comes only where

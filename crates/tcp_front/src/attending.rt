@@ -1,15 +1,57 @@
 //! One connection, from its first byte to its last.
 
-use crate::line::Line;
+ghost use Rattle.connection.specs.Serving.{IsServed};
+
+use crate::line::{Line, limit_waiting};
 use crate::seats::{Seat, Seats, Taken};
-use connection::{Counted, serve};
+use connection::{Counted, End, serve};
+use ids::Fault;
 use log::{Log, info, warn};
+use std::alloc::Global;
 use std::io::{Read, Write};
 use std::net::{Shutdown, TcpStream};
 use std::sync::Wait;
 use std::thread;
 use std::time::{Clock, Duration};
 use tuning::{CLOSED_LOOK_MILLIS, LINGER_BYTES, LINGER_MILLIS, LINGER_TIMES};
+
+/// What a connection has left.
+#[derive(Drop)]
+struct Left<I, O> {
+    end: Result<End, Fault>,
+    input: I,
+    output: O,
+    /// How often the input failed.
+    read_failures: u64,
+    /// How often the output did.
+    write_failures: u64,
+}
+
+/// Serves a connection at a seat, from its input to its output, to its end or until the seats are closed.
+fn serve_seat<I: Read, O: Write, S: Seat + Drop>(
+    alloc: Global,
+    seats: &Seats<S>,
+    input: I,
+    output: O,
+    seat: &mut S,
+) -> Left<I, O>
+    ensures { IsServed S.answers
+        (record { service = seat.old; written = O.contents output; failures = 0 })
+        (record { service = seat.new; written = O.contents result.output; failures = result.write_failures })
+        (I.remaining input) (I.remaining result.input) 0 result.read_failures result.end }
+{
+    let mut reader = Counted::new(Line::new(input, seats));
+    let mut writer = Counted::new(Line::new(output, seats));
+    let end = serve(alloc, &mut reader, &mut writer, seat);
+    let (read_failures, write_failures) = (reader.failures(), writer.failures());
+    Left {
+        end,
+        input: reader.into_device().into_device(),
+        output: writer.into_device().into_device(),
+        read_failures,
+        write_failures,
+    }
+}
 
 /// Serves a connection with a seat. Afterwards the seat is free again; where it is lost, once it is of use again.
 pub(crate) fn attend<R: Wait + Clock + AllocGlobal + Log, S: Seat + Drop>(
@@ -18,9 +60,8 @@ pub(crate) fn attend<R: Wait + Clock + AllocGlobal + Log, S: Seat + Drop>(
     seats: &Seats<S>,
     mut taken: Taken<S>,
 ) {
-    let mut reader = Counted::new(Line::new(&stream, seats));
-    let mut writer = Counted::new(Line::new(&stream, seats));
-    let _end = serve(rt.alloc(), &mut reader, &mut writer, &mut taken.seat);
+    limit_waiting(&stream);
+    let _left = serve_seat(rt.alloc(), seats, &stream, &stream, &mut taken.seat);
     let lost = seats.leave(rt, taken);
     close(&stream);
     if let Some(lost) = lost {

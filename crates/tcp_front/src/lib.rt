@@ -6,6 +6,7 @@ mod accepting;
 mod attending;
 mod line;
 mod seats;
+mod slot;
 
 pub use accepting::{Closer, front};
 pub use seats::{Seat, Seats};

@@ -1,5 +1,6 @@
 //! A connection's socket, which ends with its server.
 
+ghost use Rattle.std.specs.Prelude.{◌≡◌};
 ghost use Rattle.std.specs.Io.{ReadsAtMost, WritesAtMost};
 
 use crate::seats::Seats;
@@ -9,23 +10,37 @@ use std::net::TcpStream;
 use std::time::Duration;
 use tuning::CLOSED_LOOK_MILLIS;
 
-/// A connection as long as its server's seats are open.
+/// Lets no call at a connection wait for longer than until it is to be looked whether the seats were closed. Where the
+/// system sets no limit, the connection ends with its peer alone.
+pub(crate) fn limit_waiting(stream: &TcpStream) {
+    let limit = Some(Duration::from_millis(CLOSED_LOOK_MILLIS));
+    let _ = stream.set_read_timeout(limit);
+    let _ = stream.set_write_timeout(limit);
+}
+
+/// One way of a connection, as long as its server's seats are open: the bytes that its device gives or takes, and no
+/// others.
 ///
-/// To read waits for bytes, and tells the end of the input where the seats were closed meanwhile. To
-/// write waits for room, and fails where they were.
+/// To read waits for bytes, and to write for room. Either fails where the seats were closed meanwhile.
 #[derive(Drop)]
-pub(crate) struct Line<'a, S> {
-    stream: &'a TcpStream,
+pub(crate) struct Line<'a, D, S> {
+    device: D,
     seats: &'a Seats<S>,
 }
 
-impl<'a, S> Line<'a, S> {
-    /// The line of this connection. Where the system sets no limit to waiting, it ends with its peer alone.
-    pub(crate) fn new(stream: &'a TcpStream, seats: &'a Seats<S>) -> Line<'a, S> {
-        let limit = Some(Duration::from_millis(CLOSED_LOOK_MILLIS));
-        let _ = stream.set_read_timeout(limit);
-        let _ = stream.set_write_timeout(limit);
-        Line { stream, seats }
+impl<'a, D, S> Line<'a, D, S> {
+    /// The line over this device.
+    pub(crate) fn new(device: D, seats: &'a Seats<S>) -> Line<'a, D, S>
+        ensures { result.device ≡ device }
+    {
+        Line { device, seats }
+    }
+
+    /// The device again.
+    pub(crate) fn into_device(self) -> D
+        ensures { result ≡ self.entry.device }
+    {
+        self.device
     }
 }
 
@@ -34,38 +49,34 @@ fn is_pause(error: &Error) -> bool {
     matches!(error.kind(), ErrorKind::WouldBlock | ErrorKind::TimedOut)
 }
 
-impl<'a, S: Drop> Read for Line<'a, S> {
+impl<'a, D: Read, S: Drop> Read for Line<'a, D, S> {
+    ghost remaining = { λ line. D.remaining line.device };
+
     fn read(&mut self, buf: &mut [u8]) -> io::Result<usize> {
         for _ in 0..u64::MAX {
-            match (&mut &*self.stream).read(buf) {
-                Err(error) if is_pause(&error) => {
-                    if self.seats.are_closed() {
-                        break;
-                    }
-                }
+            match self.device.read(buf) {
+                Err(error) if is_pause(&error) && !self.seats.are_closed() => {}
                 answer => return answer,
             }
         }
-        Ok(0)
+        Err(ErrorKind::TimedOut.into())
     }
 }
 
-impl<'a, S: Drop> Write for Line<'a, S> {
+impl<'a, D: Write, S: Drop> Write for Line<'a, D, S> {
+    ghost contents = { λ line. D.contents line.device };
+
     fn write(&mut self, buf: &[u8]) -> io::Result<usize> {
         for _ in 0..u64::MAX {
-            match (&mut &*self.stream).write(buf) {
-                Err(error) if is_pause(&error) => {
-                    if self.seats.are_closed() {
-                        return Err(error);
-                    }
-                }
+            match self.device.write(buf) {
+                Err(error) if is_pause(&error) && !self.seats.are_closed() => {}
                 answer => return answer,
             }
         }
-        Ok(0)
+        Err(ErrorKind::TimedOut.into())
     }
 
     fn flush(&mut self) -> io::Result<()> {
-        Ok(())
+        self.device.flush()
     }
 }

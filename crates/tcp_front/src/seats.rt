@@ -1,15 +1,15 @@
-ghost use Rattle.std.specs.Prelude.{◌≡◌, Bool, false, true, length, not, IfNone, IfOk, IfSome, OnErr, Err};
+ghost use Rattle.std.specs.Prelude.{◌≡◌, ◌<◌, Bool, false, true, length, not, IfNone, IfOk, IfSome, OnErr, Err};
 ghost use Rattle.ids.specs.declared.fault.Fault.TheVariants.{Memory};
 
+use crate::slot::Slot;
 use client_service::{ClientService, Link};
 use connection::Service;
-use ghost_list::{GhostList, Tells};
 use ids::Fault;
 use std::alloc::Global;
 use std::marker::Model;
+use std::sync::Wait;
 use std::sync::atomic::Ordering::SeqCst;
 use std::sync::atomic::{AtomicBool, AtomicU64};
-use std::sync::{Mutex, Wait};
 
 /// A service that can serve one connection after the other.
 pub trait Seat: Service {
@@ -49,16 +49,6 @@ pub(crate) struct Taken<S> {
     pub(crate) seat: S,
 }
 
-/// A seat that is put under its lock.
-#[derive(Drop)]
-struct Seated<'a, S> {
-    seat: &'a S,
-}
-
-impl<'a, S> Tells<S> for Seated<'a, S> {
-    ghost tells = { λ seated. seated.seat.now };
-}
-
 /// The seats of a server, which its threads share by reference: contracts see them as they were made, in their
 /// order.
 ///
@@ -66,24 +56,23 @@ impl<'a, S> Tells<S> for Seated<'a, S> {
 #[derive(Drop)]
 pub struct Seats<S> {
     /// By number. A free one stands in its slot.
-    slots: Vec<Mutex<Option<S>>>,
+    slots: Vec<Slot<S>>,
     /// How many are taken now.
     taken: AtomicU64,
     is_closed: AtomicBool,
     /// Whether no further connection is accepted.
     is_over: AtomicBool,
-    /// What was put into the slots when they were made, the last one first.
-    made_with: GhostList<S>,
 }
 
 impl<S> Model for Seats<S> {
-    ghost use Rattle.std.specs.Prelude.{List, length, reverse, vec_len, ◌≡◌};
+    ghost use Rattle.std.specs.Prelude.{List, length, vec_len, ◌≡◌};
+    ghost use Rattle.std.specs.List.{flat_map};
 
     ghost Value = { List S };
 
-    ghost view = { λ seats. reverse seats.made_with.items };
+    ghost view = { λ seats. flat_map (λ slot. slot) seats.slots.items };
 
-    ghost invariant = { λ seats. length seats.made_with.items ≡ vec_len seats.slots };
+    ghost invariant = { λ seats. length (flat_map (λ slot. slot) seats.slots.items) ≡ vec_len seats.slots };
 }
 
 impl<S: Drop> Seats<S> {
@@ -93,17 +82,14 @@ impl<S: Drop> Seats<S> {
         ensures memory { OnErr result (result ≡ Err Memory) }
     {
         let mut slots = Vec::with_capacity(alloc, seats.len())?;
-        let mut made_with = GhostList::new();
         for seat in seats {
-            made_with = made_with.with(&Seated { seat: &seat });
-            slots.push_reserved(Mutex::new(Some(seat)));
+            slots.push_reserved(Slot::new(seat));
         }
         Ok(Seats {
             slots,
             taken: AtomicU64::new(0),
             is_closed: AtomicBool::new(false),
             is_over: AtomicBool::new(false),
-            made_with,
         })
     }
 
@@ -141,9 +127,11 @@ impl<S: Drop> Seats<S> {
     }
 
     /// Takes the first free seat.
-    pub(crate) fn take<R: Wait>(&self, rt: &R) -> Option<Taken<S>> {
+    pub(crate) fn take<R: Wait>(&self, rt: &R) -> Option<Taken<S>>
+        ensures { IfSome result (λ taken. taken.number < length self.now) }
+    {
         for (number, slot) in self.slots.iter().enumerate() {
-            if let Some(seat) = slot.lock(rt).take() {
+            if let Some(seat) = slot.take(rt) {
                 self.taken.fetch_add(1, SeqCst);
                 return Some(Taken { number, seat });
             }
@@ -163,7 +151,7 @@ impl<S: Drop> Seats<S> {
         }
         let Taken { number, seat } = taken;
         if let Some(slot) = self.slots.get(number) {
-            *slot.lock(rt) = Some(seat);
+            slot.put(rt, seat);
         }
         None
     }
