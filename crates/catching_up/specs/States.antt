@@ -48,10 +48,6 @@ next_height height = more height
 abbrev pub noted : (now height : ℕ) → CatchingUp → CatchingUp
 noted now height s = if nat_lt s.height height then record s { height = height; since = now; vain = 0 } else s
 
--- by how many heights it is behind
-abbrev pub behind : (foremost : ℕ) → CatchingUp → ℕ
-behind foremost s = foremost - s.height
-
 -- who executed up to a height is so far behind that it asks; once it does, until it is near
 abbrev pub is_far : (height foremost : ℕ) → CatchingUp → Bool
 is_far height foremost s = nat_lt (if s.is_away then s.pace.near else s.pace.least) (foremost - height)

@@ -1,6 +1,6 @@
 ghost use Rattle.std.specs.Prelude.{◌≡◌, ◌-◌, ◌<◌, ◌≢◌, nat_lt};
 ghost use Rattle.ids.specs.Sizes.{replicas};
-ghost use Rattle.catching_up.specs.States.{after_answer, asked, asked_by_look, behind, due_question, is_awaited, is_behind, is_far};
+ghost use Rattle.catching_up.specs.States.{after_answer, asked, asked_by_look, due_question, is_awaited, is_behind, is_far};
 ghost use Rattle.catching_up.specs.States.{is_due, is_over, is_silent, looked, noted, resting, stays, unasked};
 ghost use Rattle.catching_up.specs.States.{bytes_of, next_height, wait, whom};
 
@@ -123,13 +123,6 @@ impl CatchingUp {
             self.since = now;
             self.vain = 0;
         }
-    }
-
-    /// By how many heights it is behind the foremost.
-    fn behind(&self, foremost: Height) -> u64
-        ensures { result ≡ behind foremost self.now }
-    {
-        foremost.0.saturating_sub(self.height.0)
     }
 
     /// Whether a replica that has executed up to this height is so far behind the foremost that it asks. Once it is, it asks
