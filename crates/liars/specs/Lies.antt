@@ -23,7 +23,7 @@ use Rattle.liars.specs.declared.plain.TheConstants.{REPEATS}
 use Rattle.liars.specs.declared.plain.Lie.{Lie}
 use Rattle.liars.specs.declared.plain.Lie.TheVariants.{Mute, TwoFaced, BadReply, Crowder, Flooder}
 use Rattle.liars.specs.declared.plain.Lie.TheVariants.{HalfVoter, LateHalfVoter, HalfVotes, Climber, Spoiler}
-use Rattle.liars.specs.declared.plain.Lie.TheVariants.{WrongAnswers, OneLeftOut, WrongRecords}
+use Rattle.liars.specs.declared.plain.Lie.TheVariants.{WrongAnswers, OneLeftOut, WrongRecords, FalseDoubts}
 
 -- the proposal of a block that has no commands, with a replica's tags
 abbrev pub empty_proposal : Keys → ℕ → Core → Certificate → Frame
@@ -258,3 +258,4 @@ IsLie ring Spoiler sent out = IsTold (spoilt ring) ring.sizes sent out
 IsLie ring WrongAnswers sent out = IsTold (wrongly_answered ring) ring.sizes sent out
 IsLie ring OneLeftOut sent out = IsTold (leaving_out ring) ring.sizes sent out
 IsLie ring WrongRecords sent out = out ≡ sent ∷ []
+IsLie ring FalseDoubts sent out = out ≡ sent ∷ []

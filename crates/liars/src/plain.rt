@@ -60,6 +60,8 @@ pub enum Lie {
     OneLeftOut,
     /// It sends all as it is. What others ask of its record, outside of frames, it answers wrongly.
     WrongRecords,
+    /// It sends all as it is. Outside of frames it tells leaders that others' votes weren't right for it.
+    FalseDoubts,
 }
 
 /// How many times more a flooder sends each frame.
@@ -89,7 +91,7 @@ pub(crate) fn plain_lie(
         Lie::Spoiler => with_spoilt_requests(alloc, keyring, sending),
         Lie::WrongAnswers => with_wrong_answers(alloc, keyring, sending),
         Lie::OneLeftOut => with_one_left_out(alloc, keyring, sending),
-        Lie::WrongRecords => Ok(one(alloc, sending)?),
+        Lie::WrongRecords | Lie::FalseDoubts => Ok(one(alloc, sending)?),
     }
 }
 

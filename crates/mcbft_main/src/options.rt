@@ -14,7 +14,7 @@ Example: bin/make-keys 1 8 > keys; mcbft --keys keys --port 11211
 docs/OPERATING.md tells its limits, and what to do at each message.";
 
 /// The names of the lies.
-const LIARS: [&str; 16] = [
+const LIARS: [&str; 17] = [
     "mute",
     "two-faced",
     "bad-reply",
@@ -30,6 +30,7 @@ const LIARS: [&str; 16] = [
     "false-claims",
     "one-left-out",
     "wrong-records",
+    "false-doubts",
     "any",
 ];
 
@@ -341,6 +342,7 @@ fn lie_of(name: &str) -> Option<Lie> {
         "wrong-answers" => Some(Lie::WrongAnswers),
         "one-left-out" => Some(Lie::OneLeftOut),
         "wrong-records" => Some(Lie::WrongRecords),
+        "false-doubts" => Some(Lie::FalseDoubts),
         _ => None,
     }
 }

@@ -3,10 +3,10 @@
 use crate::recorder::Recorder;
 use bytes::Bytes;
 use catching_up::Question;
-use fabric::{Links, Outgoing, Questioned, Recording};
-use ids::{Digest, Height, ReplicaId};
-use liars::{Lies, Lying};
-use signed_frames::Sending;
+use fabric::{Links, Outgoing, Questioned, Recording, ReplicaSet};
+use ids::{Digest, Height, Kind, ReplicaId};
+use liars::{Liar, Lie, Lies, Lying};
+use signed_frames::{Sending, To};
 use std::alloc::{AllocError, Global};
 use std::sync::atomic::AtomicU64;
 use std::sync::atomic::Ordering::SeqCst;
@@ -20,8 +20,30 @@ pub(crate) struct LiarStart {
     pub(crate) lying: Lying,
     /// After how many seconds it falls silent. None for never.
     pub(crate) until: Option<u64>,
-    /// Whether it answers wrongly what others ask of its record. Else it doesn't answer.
-    pub(crate) answers: bool,
+    /// How it lies outside of frames.
+    pub(crate) beside: Beside,
+}
+
+/// How a replica lies outside of frames.
+#[derive(Clone, Copy, PartialEq, Eq)]
+pub(crate) enum Beside {
+    /// It says nothing.
+    Mute,
+    /// It answers wrongly what others ask of its record.
+    Records,
+    /// It tells each leader that votes of f others weren't right for it.
+    Doubts,
+}
+
+impl Beside {
+    /// What a liar does outside of frames.
+    pub(crate) fn of(liar: Liar) -> Beside {
+        match liar {
+            Liar::Plain(Lie::WrongRecords) => Beside::Records,
+            Liar::Plain(Lie::FalseDoubts) => Beside::Doubts,
+            _ => Beside::Mute,
+        }
+    }
 }
 
 /// A copy of a frame, of which the last byte is another.
@@ -84,9 +106,9 @@ pub(crate) struct LyingOut<'a, C> {
     links: &'a Links,
     own: ReplicaId,
     recorder: &'a Recorder,
-    answers: bool,
-    /// How many answers it gave.
-    answered: AtomicU64,
+    beside: Beside,
+    /// How many answers or doubts it told.
+    told: AtomicU64,
 }
 
 impl<'a, C: Clock> LyingOut<'a, C> {
@@ -102,7 +124,7 @@ impl<'a, C: Clock> LyingOut<'a, C> {
             alloc,
             lying,
             until,
-            answers,
+            beside,
         } = liar;
         LyingOut {
             clock,
@@ -113,8 +135,31 @@ impl<'a, C: Clock> LyingOut<'a, C> {
             links,
             own,
             recorder,
-            answers,
-            answered: AtomicU64::new(0),
+            beside,
+            told: AtomicU64::new(0),
+        }
+    }
+
+    /// Some replicas, f in a row, others each time.
+    fn some_others(&self) -> ReplicaSet {
+        let config = self.links.config();
+        let first = self.told.fetch_add(1, SeqCst);
+        let mut some = ReplicaSet::none();
+        for next in 0..u64::from(config.faults()) {
+            let number = first.wrapping_add(next) % u64::from(config.n());
+            some.add(ReplicaId(number as u8));
+        }
+        some
+    }
+
+    /// Tells whom it sends a vote that votes of some others weren't right.
+    fn doubt_falsely<R: Wait>(&self, rt: &R, sending: &Sending) {
+        if let (Beside::Doubts, Kind::Vote, To::Replica(to)) = (
+            self.beside,
+            sending.kind,
+            sending.to,
+        ) {
+            let _lost = self.links.doubt(rt, self.own, to, self.some_others());
         }
     }
 
@@ -125,7 +170,7 @@ impl<'a, C: Clock> LyingOut<'a, C> {
         from: ReplicaId,
         question: Question,
     ) -> Result<(), AllocError> {
-        let wrong = Wrong::of(self.answered.fetch_add(1, SeqCst));
+        let wrong = Wrong::of(self.told.fetch_add(1, SeqCst));
         let asked = match wrong {
             Wrong::Old => Question {
                 from: Height(0),
@@ -156,6 +201,7 @@ impl<'a, C: Clock> Outgoing for LyingOut<'a, C> {
         if self.is_silent() {
             return;
         }
+        self.doubt_falsely(rt, &sending);
         let Ok(Lies { out, own }) = self.lying.lock(rt).lie(self.alloc, sending) else {
             return;
         };
@@ -173,13 +219,13 @@ impl<'a, C: Clock> Outgoing for LyingOut<'a, C> {
 /// It never comes back where it fell behind.
 impl<C: Clock> Recording for LyingOut<'_, C> {
     fn record<R: Wait>(&self, rt: &R, bytes: &Bytes, voted: Option<Digest>) {
-        if self.answers {
+        if self.beside == Beside::Records {
             self.recorder.record(rt, bytes, voted);
         }
     }
 
     fn answer<R: Wait + Clock>(&self, rt: &R, _alloc: Global, from: ReplicaId, question: Question) {
-        if self.answers && !self.is_silent() {
+        if self.beside == Beside::Records && !self.is_silent() {
             let _lost = self.answer_wrongly(rt, from, question);
         }
     }

@@ -15,7 +15,7 @@ use crate::comeback::Comeback;
 use crate::doubts::Doubts;
 use crate::guarded::Guarded;
 use crate::laggards::Reach;
-use crate::lying::{LiarStart, LyingOut};
+use crate::lying::{Beside, LiarStart, LyingOut};
 use crate::outside::Outside;
 use crate::passed_over::PassedOver;
 use crate::recorder::Recorder;
@@ -30,7 +30,7 @@ use doorkeeper::Doorkeeper;
 use fabric::{Base, Inbox, Links, WaitingRoom, Worker};
 use ids::{Fault, Height, MOST_REPLICAS, ReplicaId, View};
 use key_file::PairKeys;
-use liars::{Liar, Lie, Lying};
+use liars::Lying;
 use locked_replica::Kept;
 use marks::{Eye, Marks};
 use replica::Archived;
@@ -330,7 +330,7 @@ fn liar_start(
         alloc,
         lying,
         until,
-        answers: liars.liar == Liar::Plain(Lie::WrongRecords),
+        beside: Beside::of(liars.liar),
     })
 }
 
