@@ -20,7 +20,7 @@ use Rattle.recovery.specs.Healing.{Phase, in_turn, highest_locked, over_lock, ju
 use Rattle.recovery.specs.Healing.{waits_until, come_to, view_to_come, make_first, fetch_all, lead_with, rounds, to_climb}
 use Rattle.recovery.specs.Healing.{agree_on, ask_again, heal}
 use Rattle.world_schedule.specs.Progress.{Stand, StandsAt}
-use Rattle.healer.specs.Courses.{Course, Goes, GoesWhere, ToldWhere, HasReplica, AreCorrect}
+use Rattle.healer.specs.Courses.{Course, Goes, GoesWhere, Told, ToldWhere, HasReplica, AreCorrect}
 use Rattle.healer.specs.Fetching.{fetch_by}
 use Rattle.healer.specs.Grounds.{IsGround}
 use Rattle.healer.proofs.Asking.{fetches-branch}
@@ -171,7 +171,23 @@ agrees k l view height count lock rs digests below a b c d e f r same sees come 
         in_turn (come_to (view_to_come m w) ∷ make_first m ∷ fetch_all (lowest_first (over_lock m w))
         ∷ lead_with k m (digest_of (lock_of w m)) ∷ (λ v. rounds (to_climb m v) m v) ∷ []) w
 
+-- the leader and its ground are what they have to be
+pub agrees-on : (k l height : ℕ) (lock : Bytes) (rs : List ℕ) (digests : List Bytes) (a b : Course)
+    (r : Result (Unit {0}) Fault) → ToldWhere a (AreCorrect rs) (λ w. l ≡ highest_locked w rs)
+    → ToldWhere a (HasReplica l) (IsGround l lock height digests)
+    → OnOk r (GoesWhere a (MayAgree rs l lock height digests) (agree_on k) b)
+    → OnOk r (GoesWhere a (AreCorrect rs) (agree_on k) b)
+agrees-on k l height lock rs digests a b r leads ground h =
+    on-ok-too _ _ r (λ g hs w t x.
+    let is = leads hs w t x in
+    g hs w t (x, is, ground hs w t (leader-is-replica rs l w x is))) h
+
 -- ---- all of it
+
+-- the right correct replicas were handed in
+pub heals-all : (k : ℕ) (rs : List ℕ) (a c : Course) (r : Result (Unit {0}) Fault)
+    → Told a (AreCorrect rs) → OnOk r (GoesWhere a (AreCorrect rs) (heal k) c) → OnOk r (Goes a (heal k) c)
+heals-all k rs a c r told h = on-ok-too _ _ r (λ g hs w t. g hs w t (told hs w t)) h
 
 pub heals : (k : ℕ) (rs : List ℕ) (P : World → Type 0) (a b c : Course) (r : Result (Unit {0}) Fault)
     → ((w : World) → P w → AreCorrect rs w) → GoesWhere a P (agree_on k) b

@@ -14,3 +14,4 @@ pub mod Lowest
 pub mod Reached
 pub mod Firsts
 pub mod Agreeing
+pub mod Receipts

@@ -2,11 +2,11 @@
 use Rattle.std.specs.Prelude.{ℕ, ◌≡◌, List, Some, map, length}
 use Rattle.definitions.specs.Branches.{Branch}
 use Rattle.definitions.specs.Bytes.{Bytes}
-use Rattle.definitions.specs.Chronicles.{horizon}
+use Rattle.definitions.specs.Chronicles.{Chronicle, horizon}
 use Rattle.definitions.specs.Digests.{digest_of}
 use Rattle.definitions.specs.States.{find_block}
 use Rattle.definitions.specs.Worlds.{World}
-use Rattle.recovery.specs.Correct.{chronicle_of, lock_of}
+use Rattle.recovery.specs.Correct.{lock_of}
 use Rattle.recovery.specs.Healing.{lowest_first, over_lock}
 
 -- a leader's lock, and the height of what justifies it with the digests of that and of all below it, the lowest first
@@ -15,8 +15,8 @@ pub record IsGround (l : ℕ) (lock : Bytes) (height : ℕ) (digests : List Byte
   pub high : height ≡ length (over_lock l w)
   pub below : digests ≡ map digest_of (lowest_first (over_lock l w))
 
--- A replica that has forgotten no block has this one, by its digest and of this height.
-pub record HasWhole (w : World) (r : ℕ) (d : Bytes) (top : ℕ) (x : Branch) : Type 0 where
-  pub found : find_block d (chronicle_of w r) ≡ Some x
+-- A replica of this chronicle has forgotten no block, and has this one, by its digest and of this height.
+pub record HasWhole (c : Chronicle) (d : Bytes) (top : ℕ) (x : Branch) : Type 0 where
+  pub found : find_block d c ≡ Some x
   pub high : length x ≡ top
-  pub whole : horizon (chronicle_of w r) ≡ 0
+  pub whole : horizon c ≡ 0

@@ -161,7 +161,7 @@ pub(crate) fn lowest_first(
     top: Height,
 ) -> Result<Vec<Digest>, Fault>
     ensures { IfOk result (λ ds. ToldWhere healer.now (HasReplica replica) (λ w.
-        (x : Branch) → HasWhole w replica block.now top x → ds.items ≡ map digest_of (lowest_first x))) }
+        (x : Branch) → HasWhole (chronicle_of w replica) block.now top x → ds.items ≡ map digest_of (lowest_first x))) }
 {
     let mut digests = Vec::new(healer.alloc());
     for below in 0..top.0 {

@@ -1,10 +1,11 @@
 //! All of it.
 
 ghost use Rattle.std.specs.Prelude.{◌≡◌, ◌++◌, IfOk, OnOk};
-ghost use Rattle.recovery.specs.Healing.{agree_on, highest_locked, over_lock};
+ghost use Rattle.recovery.specs.Healing.{agree_on, heal, highest_locked};
 ghost use Rattle.world_schedule.specs.Running.{IsRunOf};
-ghost use Rattle.healer.specs.Courses.{GoesWhere, ToldWhere, HasReplica, AreCorrect};
-ghost use Rattle.healer.specs.Grounds.{HasWhole, IsGround};
+ghost use Rattle.healer.specs.Courses.{Goes, GoesWhere, ToldWhere, HasReplica, AreCorrect};
+ghost use Rattle.healer.specs.Grounds.{IsGround};
+ghost use Rattle.healer.specs.Receipts.{Answers};
 
 use crate::blocks::{rounds, to_climb};
 use crate::fetching::{fetch_all, lowest_first};
@@ -13,6 +14,7 @@ use crate::leading::{highest_locked, lead_with, lock_of, make_first, over_lock};
 use crate::requests::{ask_again, request_of};
 use crate::views::{come_to, view_to_come};
 use ids::{ClientId, Digest, Fault, Height, ReplicaId};
+use recovery::never_wedged;
 use std::alloc::Global;
 use world_schedule::{Event, Outcome, World};
 
@@ -28,9 +30,8 @@ struct Ground {
 
 /// The ground of a leader. `Pruned` where it has forgotten any block.
 fn ground_of(healer: &Healer<'_>, leader: ReplicaId) -> Result<Ground, Fault>
-    ensures { IfOk result (λ g. ToldWhere healer.now (HasReplica leader) (λ w.
-        HasWhole w leader g.over g.height (over_lock leader w)
-        → IsGround leader g.lock g.height g.digests.items w)) }
+    ensures { IfOk result (λ g. ToldWhere healer.now (HasReplica leader)
+        (IsGround leader g.lock g.height g.digests.items)) }
 {
     let (over, height) = over_lock(healer, leader)?;
     let digests = lowest_first(healer, leader, &over, height)?;
@@ -70,7 +71,8 @@ fn agree_under(
 
 /// All correct replicas agree on a request, which is frame k, under one of them.
 fn agree_on(healer: &mut Healer<'_>, correct: &[ReplicaId], request: u64) -> Result<(), Fault>
-    ensures { healer.new.origin ≡ healer.old.origin }
+    ensures origin { healer.new.origin ≡ healer.old.origin }
+    ensures came { OnOk result (GoesWhere healer.old (AreCorrect correct.now) (agree_on request) healer.new) }
 {
     let leader = highest_locked(healer, correct);
     let ground = ground_of(healer, leader)?;
@@ -79,9 +81,16 @@ fn agree_on(healer: &mut Healer<'_>, correct: &[ReplicaId], request: u64) -> Res
 
 impl<'a> Healer<'a> {
     /// Brings the client of a request its receipt: frame k of the record is that request.
+    ///
+    /// So nobody is wedged: what `recovery::never_wedged` promises of healing has come about.
     pub fn heal(&mut self, request: u64) -> Result<(), Fault>
-        ensures { self.new.origin ≡ self.old.origin }
+        ensures origin { self.new.origin ≡ self.old.origin }
+        ensures came { OnOk result (Goes self.old (heal request) self.new) }
+        ensures answers { OnOk result (Answers self.old request self.new) }
     {
+        // For the proof: nobody is wedged, and the run is one in a world.
+        never_wedged();
+        self.holds();
         let correct = self.correct_replicas()?;
         agree_on(self, &correct, request)?;
         ask_again(self, &correct, request)

@@ -6,10 +6,11 @@ ghost use Rattle.definitions.specs.Worlds as worlds;
 ghost use Rattle.definitions.specs.Worlds.{Happening, Sent, relay, offer, of_record};
 ghost use Rattle.recovery.specs.Correct.{amply, chronicle_of, lock_of};
 ghost use Rattle.definitions.specs.States.{is_known};
-ghost use Rattle.world_schedule.specs.Outcomes.{shown_frame, shown_sent};
+ghost use Rattle.world_schedule.specs.Outcomes.{shown_frame, shown_sent, TellsOf};
 ghost use Rattle.recovery.specs.Healing.{comes_to, offered_to, receivers, sent_since, delivered, delivered_since};
-ghost use Rattle.world_schedule.specs.Progress.{StandsAt};
+ghost use Rattle.world_schedule.specs.Progress.{HasRun, StandsAt};
 ghost use Rattle.world_schedule.specs.Running.{IsRunOf};
+ghost use Rattle.world_schedule.specs.Settings.{Holds};
 ghost use Rattle.healer.specs.Courses.{Takes, Goes, GoesWhere, Told, ToldWhere, HasReplica, AreCorrect, IsReplicaIn};
 ghost use Rattle.healer.specs.Records.{is_of, GoesTo};
 ghost use Rattle.ids.specs.Numbers.{kind_number};
@@ -109,8 +110,9 @@ fn lacked_memory(asks: bool, is_silent: bool, answer: Option<Fault>) -> bool
 impl<'a> Healer<'a> {
     /// Runs a schedule.
     pub fn new(alloc: Global, world: &'a World, schedule: &'a [Event]) -> Result<Healer<'a>, Fault>
-        ensures { IfOk result
+        ensures origin { IfOk result
             (λ h. h.origin ≡ record { setting = world.entry.now; schedule = schedule.entry.now }) }
+        ensures ran { IfOk result (λ h. HasRun world.entry.now schedule.entry.now h.stand) }
     {
         let mut running = Running::new(world)?;
         for event in schedule {
@@ -138,6 +140,15 @@ impl<'a> Healer<'a> {
         let lacked = lacked_memory(asks(&event), is_silent, last_answer(&self.running));
         self.events.push_reserved(event);
         if lacked { Err(Fault::Memory) } else { Ok(()) }
+    }
+
+    /// Says that its run is one in a world, and does nothing else.
+    pub(crate) fn holds(&self)
+        ensures own { self.now.stand.setting ≡ self.now.origin.setting }
+        ensures world { Holds self.now.origin.setting }
+    {
+        // For the proof: few replicas are faulty, and each party has its own keys.
+        self.running.world().holds();
     }
 
     /// Where memory comes from.
@@ -220,9 +231,10 @@ impl<'a> Healer<'a> {
     }
 
     /// The events that healing added, and what the run of the schedule and these came to.
-    pub(crate) fn finish(self) -> Result<(Vec<Event>, Outcome), Fault>
-        ensures { IfOk result
+    pub fn finish(self) -> Result<(Vec<Event>, Outcome), Fault>
+        ensures ran { IfOk result
             (λ x. IsRunOf self.entry.origin.setting (self.entry.origin.schedule ++ x.0.items) x.1) }
+        ensures told { IfOk result (λ x. Told self.entry (λ w. TellsOf w x.1)) }
     {
         // For the proof: the world's keyrings are its parties'.
         self.running.world().holds();

@@ -6,11 +6,14 @@ ghost use Rattle.definitions.specs.Digests.{digest_of};
 ghost use Rattle.recovery.specs.Correct.{chronicle_of, lock_of};
 ghost use Rattle.recovery.specs.Healing.{highest_locked, newcomers, over_lock, make_first, lead_with};
 ghost use Rattle.healer.specs.Courses.{Goes, GoesWhere, ToldWhere, HasReplica, AreCorrect};
+ghost use Rattle.healer.specs.Grounds.{HasWhole};
 ghost use Rattle.healer.specs.Locks.{higher_locked};
+ghost use Rattle.replica.specs.Locked as kept;
 
 use crate::healer::{Healer, bring_to_each, lock_height};
 use frames_view::genesis_digest;
 use ids::{Digest, Fault, Height, Kind, ReplicaId};
+use replica::Replica;
 use world_schedule::Event;
 
 /// The first of two replicas, unless the other one's lock is higher.
@@ -75,17 +78,28 @@ fn newcomers(healer: &Healer<'_>, replicas: &[ReplicaId]) -> Result<Vec<ReplicaI
     Ok(found)
 }
 
-/// A certified block that justifies the leader's lock, with its height: genesis, where the leader took none over such a
-/// one. `Pruned` where the leader has forgotten any block.
-pub(crate) fn over_lock(healer: &Healer<'_>, leader: ReplicaId) -> Result<(Digest, Height), Fault> {
-    let genesis = (genesis_digest(), Height(0));
-    let Some(replica) = healer.replica(leader) else {
-        return Ok(genesis);
-    };
+/// A certified block that justifies a replica's lock, with its height: genesis, where it took none over such a one.
+/// `Pruned` where it has forgotten any block.
+fn found_over(replica: &Replica) -> Result<(Digest, Height), Fault>
+    ensures { IfOk result (λ x.
+        HasWhole replica.now.replica.chronicle x.0 x.1 (kept.over_lock replica.now.replica.chronicle)) }
+{
     if replica.horizon().0 > 0 {
-        return Err(Fault::Pruned);
+        Err(Fault::Pruned)
+    } else {
+        Ok(replica.over_lock())
     }
-    Ok(replica.over_lock())
+}
+
+/// The same of the leader.
+pub(crate) fn over_lock(healer: &Healer<'_>, leader: ReplicaId) -> Result<(Digest, Height), Fault>
+    ensures { IfOk result (λ x. ToldWhere healer.now (HasReplica leader)
+        (λ w. HasWhole (chronicle_of w leader) x.0 x.1 (over_lock leader w))) }
+{
+    match healer.replica(leader) {
+        Some(replica) => found_over(replica),
+        None => Ok((genesis_digest(), Height(0))),
+    }
 }
 
 /// The digest of the block that a replica is locked on.
