@@ -17,7 +17,8 @@ use turns::{Gate, Share, Steps};
 
 impl<'a, G: Gate, O: Outgoing + Questioned + Recording> Worker<'a, G, O> {
     /// Whether a frame is of no use to a replica that is far behind, so that it may get lost, as on any network: a block so
-    /// high that what it stands on won't come soon, or an announcement. It comes to the others' view once it has their blocks.
+    /// high that what it stands on won't come soon; a request, which others answer before; or an announcement. It comes to the
+    /// others' view once it has their blocks.
     pub(crate) fn is_out_of_reach(&self, bytes: &[u8]) -> bool {
         let Some(reach) = self.out.reach() else {
             return false;
@@ -25,7 +26,7 @@ impl<'a, G: Gate, O: Outgoing + Questioned + Recording> Worker<'a, G, O> {
         match read(&self.keyring.config(), bytes) {
             Ok(Frame::Proposal(proposal)) => proposal.core().height().0 > reach.0,
             Ok(Frame::Block(block)) => block.core().height().0 > reach.0,
-            Ok(Frame::NewView(_)) => true,
+            Ok(Frame::NewView(_) | Frame::Request(_)) => true,
             _ => false,
         }
     }
