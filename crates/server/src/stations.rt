@@ -180,13 +180,31 @@ impl<'s, 'a> Timed<'s, 'a> {
         }
     }
 
-    /// Where the replica is far behind, it is to look whether it asks others for what they recorded.
-    fn catch_up<R: Wait>(&self, rt: &R) {
-        let height = Height(self.station.shown.load(SeqCst));
+    /// Whether the replica, which has executed up to this height, is far behind. Then it is to look whether it asks others for
+    /// what they recorded.
+    fn is_away<R: Wait>(&self, rt: &R, height: Height) -> bool {
         let shown = self.shown();
         let all = shown.get(..usize::from(self.links.config().n()));
         if self.station.comeback.see(rt, height, all.unwrap_or(&[])) {
             let _ = self.links.catch_up(rt, self.station.number);
+        }
+        self.station.comeback.is_away()
+    }
+
+    /// What is seen of the replica.
+    fn seen<R: Wait>(&self, rt: &R) -> Pulse {
+        let guarded = self.station.locked.lock(rt);
+        let replica = guarded.replica();
+        Pulse {
+            wants_beat: replica.wants_beat(),
+            wants_beat_now: replica.wants_beat_now(),
+            pending: replica.pending() as u64,
+            view: replica.view(),
+            executed: replica.executed() as u64,
+            height: replica.height(),
+            voted: replica.voted(),
+            horizon: replica.horizon(),
+            stopped: guarded.stopped(),
         }
     }
 }
@@ -194,19 +212,15 @@ impl<'s, 'a> Timed<'s, 'a> {
 /// What a link doesn't take is lost. While the replica is far behind, nothing waits for it, and it leads nobody.
 impl<'s, 'a> Watched for Timed<'s, 'a> {
     fn pulse<R: Wait>(&self, rt: &R) -> Pulse {
-        let is_here = !self.station.comeback.is_away();
-        let guarded = self.station.locked.lock(rt);
-        let replica = guarded.replica();
+        let seen = self.seen(rt);
+        if !self.is_away(rt, seen.height) {
+            return seen;
+        }
         Pulse {
-            wants_beat: is_here && replica.wants_beat(),
-            wants_beat_now: is_here && replica.wants_beat_now(),
-            pending: if is_here { replica.pending() as u64 } else { 0 },
-            view: replica.view(),
-            executed: replica.executed() as u64,
-            height: replica.height(),
-            voted: replica.voted(),
-            horizon: replica.horizon(),
-            stopped: guarded.stopped(),
+            wants_beat: false,
+            wants_beat_now: false,
+            pending: 0,
+            ..seen
         }
     }
 
@@ -219,7 +233,6 @@ impl<'s, 'a> Watched for Timed<'s, 'a> {
     }
 
     fn hand_in<R: Wait>(&self, rt: &R, due: Due) {
-        self.catch_up(rt);
         let view = self.station.trouble.view();
         self.station.passed_over.ask(rt, view);
         if due.beat {
