@@ -80,6 +80,12 @@ impl Comeback {
         self.is_away.load(SeqCst)
     }
 
+    /// Whether no more than f others were ahead of it by more than a little when its clock looked last, where it has executed up to
+    /// this height.
+    pub(crate) fn is_near(&self, height: Height) -> bool {
+        self.foremost().0.saturating_sub(height.0) <= NEAR_HEIGHTS
+    }
+
     /// Where it is far behind, up to which height frames are of use to it.
     pub(crate) fn reach(&self) -> Option<Height> {
         if self.is_away() {

@@ -191,6 +191,18 @@ impl<'s, 'a> Timed<'s, 'a> {
         self.station.comeback.is_away()
     }
 
+    /// Whether so many others are in a view, or in a later one, that with this replica they are a quorum. Before that nobody is
+    /// to blame where nothing is decided: who is ahead waits.
+    fn is_met(&self, view: View) -> bool {
+        let own = self.station.number;
+        let others = self
+            .stations
+            .iter()
+            .filter(|other| other.number != own && other.trouble.view().0 >= view.0)
+            .count();
+        others.saturating_add(1) >= usize::from(self.links.config().quorum())
+    }
+
     /// What is seen of the replica.
     fn seen<R: Wait>(&self, rt: &R) -> Pulse {
         let guarded = self.station.locked.lock(rt);
@@ -209,17 +221,17 @@ impl<'s, 'a> Timed<'s, 'a> {
     }
 }
 
-/// What a link doesn't take is lost. While the replica is far behind, nothing waits for it, and it leads nobody.
+/// What a link doesn't take is lost. While the replica is behind others, or ahead of them in its view, nothing is slow; and
+/// while it is far behind, it leads nobody.
 impl<'s, 'a> Watched for Timed<'s, 'a> {
     fn pulse<R: Wait>(&self, rt: &R) -> Pulse {
         let seen = self.seen(rt);
-        if !self.is_away(rt, seen.height) {
-            return seen;
-        }
+        let is_here = !self.is_away(rt, seen.height);
+        let waits = self.station.comeback.is_near(seen.height) && self.is_met(seen.view);
         Pulse {
-            wants_beat: false,
-            wants_beat_now: false,
-            pending: 0,
+            wants_beat: is_here && seen.wants_beat,
+            wants_beat_now: is_here && seen.wants_beat_now,
+            pending: if waits { seen.pending } else { 0 },
             ..seen
         }
     }
