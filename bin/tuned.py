@@ -12,7 +12,7 @@ NOT_TUNED = {
     "liars::SOON", "liars::LATE",
     "liars::MOST_KEPT", "liars::LOW_EACH", "liars::LOW_LEAST", "liars::LOW_SPREAD", "liars::LOW_STEP",
     "liars::MANNERS",                           # how many ways there are to spoil a frame
-    "mcbft_main::MOST_OF_32_BITS",
+    "command_line::MOST_OF_32_BITS",
     "handshake::ASK_LABEL", "handshake::ANSWER_LABEL",          # a format, and its lengths
     "handshake::GREETING_LEN", "handshake::ASK_LEN", "handshake::ANSWER_LEN", "handshake::HEAD_LEN",
 }

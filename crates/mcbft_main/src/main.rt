@@ -4,16 +4,13 @@
 #![tactic(auto)]
 
 mod faults;
-mod options;
 mod serving;
-mod words;
 
 use crate::faults::MainFault;
-use crate::options::{Options, matches_of};
 use crate::serving::serve;
-use crate::words::words_of;
 use clap::Error;
 use clap::error::ErrorKind;
+use command_line::{Options, matches_of, words_of};
 use ids::Fault;
 use server::{EndAudit, Ended};
 use std::hash::RandomState;

@@ -1,8 +1,8 @@
 //! What the program does, from its options to its end.
 
 use crate::faults::MainFault;
-use crate::options::Options;
-use ids::{Config, Fault};
+use command_line::Options;
+use ids::Fault;
 use key_file::PairKeys;
 use log::Log;
 use server::{Ended, run};
@@ -16,11 +16,7 @@ use std::time::Clock;
 
 /// The keys of all parties, from their file.
 fn read_keys<R: AllocGlobal + Files>(rt: &R, options: &Options<'_>) -> Result<PairKeys, MainFault> {
-    let sizes = Config::new(options.faults, options.clients)?;
-    if options.liars == 0 || options.liars > options.faults {
-        return Err(MainFault::Fault(Fault::BadSize));
-    }
-    let config = sizes.with_most_keys(options.keys_held as usize)?;
+    let config = options.config()?;
     let text = match fs::read(rt, options.keys) {
         Ok(text) => text,
         Err(error) if error.kind() == ErrorKind::OutOfMemory => {

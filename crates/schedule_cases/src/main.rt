@@ -4,12 +4,10 @@
 //! - `#runs`: schedules that are run as `hsim` runs them (`runs.rt`).
 //! - `#heals`: schedules that are healed as `hsim heal` does (`heals.rt`).
 //! - `#judged`: schedules whose runs are judged here, also without memory (`judged.rt`).
-//! - `#audits`: replicas that are audited, and reasons that are checked (`audits.rt`).
 //!
 //! What is wanted was computed by an independent program.
 #![tactic(auto)]
 
-mod audits;
 mod heals;
 mod judged;
 mod runs;
@@ -26,11 +24,8 @@ fn tell_part(rt: &HostRuntime, hasher: RandomState, part: &[u8]) -> Result<()> {
     if let Some(cases) = part.strip_prefix(b"heals\n") {
         return heals::tell_all(rt, hasher, cases);
     }
-    if let Some(cases) = part.strip_prefix(b"judged\n") {
-        return judged::judge_all(rt, hasher, cases);
-    }
-    match part.strip_prefix(b"audits\n") {
-        Some(cases) => audits::answer_all(rt, hasher, cases),
+    match part.strip_prefix(b"judged\n") {
+        Some(cases) => judged::judge_all(rt, hasher, cases),
         None => bail!("no such subject"),
     }
 }

@@ -1,5 +1,5 @@
--- The number of one station more.
-use Rattle.std.proofs.Common.{◌≡◌, ℕ, zero, suc, ◌+◌, List, [], ◌∷◌, ◌++◌, ap, ◌∙◌, arith}
+-- The number of one station more, and what stands at one seat more.
+use Rattle.std.proofs.Common.{◌≡◌, ℕ, zero, suc, ◌+◌, List, [], ◌∷◌, ◌++◌, map, ap, sym, ◌∙◌, arith}
 use Rattle.std.proofs.lemmas.List.{map_push}
 use Rattle.std.specs.List.{range_with_len}
 use Rattle.server.specs.declared.stations.Station.{Station}
@@ -8,6 +8,20 @@ use Rattle.server.specs.Stations.{numbers_of}
 range_more : (a n j : ℕ) → a + n ≡ j → range_with_len a n ++ j ∷ [] ≡ range_with_len a (suc n)
 range_more a zero j at = let e : j ≡ a = omega (arith, at) in ap (λ k. k ∷ []) e
 range_more a (suc n) j at = ap (λ ks. a ∷ ks) (range_more (a + 1) n j (omega (arith, at)))
+
+-- what is seen of the first n, and then of one more
+pub seen_more : {S X : Type 0} (f : S → X) (g : ℕ → X) (before after : List S) (one : S) (n next : ℕ)
+    → after ≡ before ++ one ∷ [] → map f before ≡ map g (range_with_len 0 n) → f one ≡ g n → next ≡ n + 1
+    → map f after ≡ map g (range_with_len 0 next)
+seen_more f g before after one n next made so_far is behind =
+    let more : suc n ≡ next = omega (arith, behind) in
+    ap (map f) made
+    ∙ map_push f before one
+    ∙ ap (λ xs. xs ++ f one ∷ []) so_far
+    ∙ ap (λ x. map g (range_with_len 0 n) ++ x ∷ []) is
+    ∙ sym (map_push g (range_with_len 0 n) n)
+    ∙ ap (map g) (range_more 0 n n (omega arith))
+    ∙ ap (λ k. map g (range_with_len 0 k)) more
 
 pub numbers_more : (before after : List Station) (station : Station) (n next : ℕ)
     → after ≡ before ++ station ∷ [] → numbers_of before ≡ range_with_len 0 n → station.number ≡ n → next ≡ n + 1

@@ -1,18 +1,21 @@
 -- When a proposal is out, and which beats are in vain.
-use Rattle.std.specs.Prelude.{◌≡◌, ◌==◌, ◌&&◌, Bool, true, false, not, List, [], ◌∷◌, Result, Ok, Err}
-use Rattle.std.specs.Prelude.{if◌then◌else◌, nat_lt, ℕ, Option, Some, None}
+use Rattle.std.specs.Prelude.{◌≡◌, ◌⊎◌, ◌==◌, ◌&&◌, Bool, true, false, not, List, [], ◌∷◌, Result, Ok, Err}
+use Rattle.std.specs.Prelude.{if◌then◌else◌, nat_lt, ℕ, Option, Some, None, option_map, unwrap_or}
 use Rattle.ids.specs.Sizes.{leader}
 use Rattle.ids.specs.declared.fault.Fault.{Fault}
-use Rattle.ids.specs.declared.fault.Fault.TheVariants.{BadHeight, NotMine, WrongJustify}
+use Rattle.ids.specs.declared.fault.Fault.TheVariants.{BadHeight, Crowded, Memory, NotMine, WrongJustify}
 use Rattle.admission.specs.declared.input.Input.{Input}
 use Rattle.admission.specs.declared.input.Input.TheVariants as input
 use Rattle.admission.specs.Inputs.{input_of}
+use Rattle.definitions.specs.Bytes.{Bytes}
 use Rattle.definitions.specs.Chronicles.{vheight}
+use Rattle.definitions.specs.Digests.{digest}
 use Rattle.definitions.specs.Frames.{Core}
-use Rattle.definitions.specs.States.{view}
-use Rattle.definitions.specs.Rulings.{Input as Ruled, Input.proposal_in, Input.offered_in}
+use Rattle.definitions.specs.States.{is_known, view}
+use Rattle.definitions.specs.Rulings.{Input as Ruled, Input.proposal_in, Input.block_in, Input.offered_in, Input.relayed_in}
 use Rattle.doorkeeper.specs.Climbs.{climbs_too_far}
 use Rattle.signed_frames.specs.Outs.{SentBytes}
+use Rattle.turns.specs.Shares.{ShareState}
 use Rattle.turns.specs.declared.prompt.Prompt.{Prompt}
 use Rattle.turns.specs.declared.prompt.Prompt.TheVariants as prompt
 use Rattle.locked_replica.specs.Kept.{KeptState}
@@ -80,6 +83,26 @@ refusal kept input =
     else if climbs_too_far (input_of input) (view kept.keys.sizes kept.replica.chronicle) then Some BadHeight
     else if is_careless kept (input_of input) then Some WrongJustify
     else None
+
+-- the digest of the block that an input brings
+abbrev pub brought_block : Ruled → Option Bytes
+brought_block (proposal_in view core q found) = Some (digest core)
+brought_block (block_in sender core q found) = Some (digest core)
+brought_block (offered_in view sender core q found) = Some (digest core)
+brought_block (relayed_in senders core q found) = Some (digest core)
+brought_block other = None
+
+-- an input brings a block that stands already
+abbrev pub stands : KeptState → Input → Bool
+stands kept input =
+    unwrap_or (option_map (λ d. is_known d kept.replica.chronicle) (brought_block (input_of input))) false
+
+-- A block is kept out, and nothing changes: it doesn't stand yet and others crowd its height, or it couldn't be counted.
+pub record IsKeptOut (old : KeptState) (share : ShareState) (input : Input) (answer : Result (List SentBytes) Fault)
+    (new : KeptState) (share' : ShareState) : Type 0 where
+  pub why : (stands old input ≡ false) × (answer ≡ Err Crowded) ⊎ (answer ≡ Err Memory)
+  pub same : new ≡ old
+  pub same_share : share' ≡ share
 
 -- a prompt to propose at once
 abbrev pub asks_for_proposal : Prompt → Bool

@@ -1,7 +1,9 @@
 //! The seats of a front: one client each.
 
-ghost use Rattle.std.specs.Prelude.{◌≡◌, ◌⊎◌, Err, OnErr};
+ghost use Rattle.std.specs.Prelude.{◌≡◌, ◌<◌, ◌⊎◌, Err, IfOk, OnErr, map};
+ghost use Rattle.std.specs.List.{range_with_len};
 ghost use Rattle.ids.specs.declared.fault.Fault.TheVariants.{Memory, NoSuchParty};
+ghost use Rattle.server.specs.Seating.{first_session, seated, sits};
 
 use crate::link::ClientLink;
 use crate::roll::Roll;
@@ -27,6 +29,9 @@ fn seat<R: Wait + Clock + AllocGlobal + Clone + Drop>(
     frames: ClientEnd,
     lies: bool,
 ) -> Result<ClientSeat<R>, Fault>
+    requires client { client < keys.now.sizes.clients }
+    ensures session { IfOk result (λ seat. seat.session ≡ first_session keys.now client) }
+    ensures lies { IfOk result (λ seat. seat.link.lies ≡ lies) }
     ensures refused { OnErr result ((result ≡ Err Memory) ⊎ (result ≡ Err NoSuchParty)) }
 {
     let (alloc, config) = (rt.alloc(), keys.config());
@@ -46,6 +51,8 @@ pub(crate) fn seats<R: Wait + Clock + AllocGlobal + Clone + Drop>(
     ends: Vec<ClientEnd>,
     liars: u8,
 ) -> Result<Seats<ClientSeat<R>>, Fault>
+    ensures seated { IfOk result (λ seats. map sits seats
+        ≡ map (seated keys.now liars) (range_with_len 0 keys.now.sizes.clients)) }
     ensures refused { OnErr result ((result ≡ Err Memory) ⊎ (result ≡ Err NoSuchParty)) }
 {
     let alloc = rt.alloc();
@@ -56,8 +63,9 @@ pub(crate) fn seats<R: Wait + Clock + AllocGlobal + Clone + Drop>(
             return Err(Fault::NoSuchParty);
         };
         seats.reserve(1)?;
-        let client = ClientId(number);
-        seats.push_reserved(seat(rt, links, roll, keys, client, frames, number < liars)?);
+        let (client, lies) = (ClientId(number), number < liars);
+        let seated = seat(rt, links, roll, keys, client, frames, lies)?;
+        seats.push_reserved(seated);
     }
     Seats::new(alloc, seats)
 }

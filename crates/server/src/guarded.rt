@@ -1,7 +1,7 @@
 //! A replica, its doorkeeper, and how many blocks it may hold.
 
-ghost use Rattle.std.specs.Prelude.{◌≡◌, ◌-◌, ◌⊎◌, ◌&&◌, Err, MatchBool, MatchOption, length, nat_lt, not, if◌then◌else◌};
-ghost use Rattle.std.specs.Bool.{OnFalse};
+ghost use Rattle.std.specs.Prelude.{◌≡◌, ◌<◌, ◌-◌, ◌⊎◌, ◌&&◌, Err, IsTrue, MatchBool, MatchOption, length, nat_lt, not, if◌then◌else◌};
+ghost use Rattle.std.specs.Bool.{OnFalse, OnTrue};
 ghost use Rattle.ids.specs.declared.fault.Fault.TheVariants.{Full, Crowded, Memory};
 ghost use Rattle.definitions.specs.Chronicles.{horizon, window};
 ghost use Rattle.frames_view.specs.Views.{core_of};
@@ -9,6 +9,7 @@ ghost use Rattle.doorkeeper.specs.Doors.{passes, remembered, with_block};
 ghost use Rattle.admission.specs.Inputs.{input_of};
 ghost use Rattle.locked_replica.specs.Heeding as heeding;
 ghost use Rattle.server.specs.Guarding as guarding;
+ghost use Rattle.server.specs.Guarding.{IsKeptOut};
 ghost use Rattle.locked_replica.specs.Stepping.{WholeStep};
 ghost use Rattle.turns.specs.Shares.{Counts};
 ghost use Rattle.ids.specs.declared.limits.TheConstants.{BELOW_HORIZON};
@@ -16,7 +17,7 @@ ghost use Rattle.ids.specs.declared.limits.TheConstants.{BELOW_HORIZON};
 use asking::Questions;
 use doorkeeper::{Brought, Doorkeeper, brings, climbs_too_far};
 use frames_view::CoreView;
-use ids::{Fault, Height, ReplicaId, View};
+use ids::{Digest, Fault, Height, ReplicaId, View};
 use locked_replica::{Kept, Share};
 use replica::{Input, Out, Replica};
 use turns::{Prompt, UnderLock};
@@ -51,6 +52,21 @@ fn moves(input: &Input<'_>) -> bool
             | Input::Lead(_)
             | Input::SeenView(_)
     )
+}
+
+/// The digest of the block that an input brings.
+fn brought_block(input: &Input<'_>) -> Option<Digest>
+    ensures { result ≡ guarding.brought_block (input_of input.now) }
+{
+    let block = match input {
+        Input::Proposal(checked) => checked.view().core(),
+        Input::Block(checked) => checked.view().core(),
+        Input::OfferedProposal(tagged) => tagged.view().core(),
+        Input::OfferedBlock(tagged) => tagged.view().core(),
+        Input::Relayed(copies) => copies.first().view().core(),
+        _ => return None,
+    };
+    Some(block.digest())
 }
 
 /// Whether a step was made that sends something.
@@ -150,13 +166,17 @@ impl<'a> Guarded<'a> {
         if self.questions.is_empty() {
             return None;
         }
-        let block = match input {
-            Input::Block(checked) => checked.view().core().digest(),
-            Input::OfferedBlock(tagged) => tagged.view().core().digest(),
-            Input::Relayed(copies) => copies.first().view().core().digest(),
-            _ => return None,
-        };
-        self.questions.payer(&block)
+        self.questions.payer(&brought_block(input)?)
+    }
+
+    /// Whether it brings a block that stands: one more frame with it takes no room.
+    fn stands(&self, input: &Input<'_>) -> bool
+        ensures { result ≡ guarding.stands self.now.kept input.now }
+    {
+        match brought_block(input) {
+            Some(block) => self.replica().knows(&block),
+            None => false,
+        }
     }
 
     /// A step, after which it is known whether the last proposal is out.
@@ -177,15 +197,18 @@ impl<'a> Guarded<'a> {
         answer
     }
 
-    /// A step with a block, where the doorkeeper lets it in. It is counted where the replica took it: then
-    /// more blocks stand in its window.
-    fn take(&mut self, share: &mut Share, input: Input<'_>, block: &Brought) -> Result<Out, Fault>
-        ensures stepped { WholeStep self.old.kept share.old input.entry result self.new.kept share.new
-            ⊎ ((result ≡ Err Crowded) ⊎ (result ≡ Err Memory)) × (self.new.kept ≡ self.old.kept)
-            × (share.new ≡ share.old) }
+    /// A step with a block that was let in. It is counted where the replica took it: then more blocks stand in its
+    /// window.
+    fn take_in(
+        &mut self,
+        share: &mut Share,
+        input: Input<'_>,
+        block: &Brought,
+    ) -> Result<Out, Fault>
+        requires passes { IsTrue (passes self.old.door.replicas block.now self.old.door.taken) }
+        requires room { 0 < self.old.door.room }
+        ensures stepped { WholeStep self.old.kept share.old input.entry result self.new.kept share.new }
         ensures counts { Counts share.old result share.new }
-        ensures kept_out { OnFalse (passes self.old.door.replicas block.now self.old.door.taken)
-            ((result ≡ Err Crowded) × (self.new.kept ≡ self.old.kept)) }
         ensures counted { self.new.door.taken
             ≡ (if nat_lt (length (window self.old.kept.replica.chronicle))
             (length (window self.new.kept.replica.chronicle))
@@ -193,13 +216,35 @@ impl<'a> Guarded<'a> {
             else self.old.door.taken) }
         ensures out { self.new.is_out ≡ guarding.out_after self.old.is_out input.entry result }
     {
-        self.door.let_in(block)?;
         let before = self.replica().blocks();
         let answer = self.step_and_note(share, input);
         if self.replica().blocks() > before {
             self.door.took(block);
         }
         answer
+    }
+
+    /// A step with a block, where the doorkeeper lets it in, or it stands already.
+    fn take(&mut self, share: &mut Share, input: Input<'_>, block: &Brought) -> Result<Out, Fault>
+        ensures stepped { WholeStep self.old.kept share.old input.entry result self.new.kept share.new
+            ⊎ IsKeptOut self.old.kept share.old input.entry result self.new.kept share.new }
+        ensures counts { Counts share.old result share.new }
+        ensures kept_out { OnFalse (passes self.old.door.replicas block.now self.old.door.taken)
+            (OnFalse (guarding.stands self.old.kept input.entry)
+            ((result ≡ Err Crowded) × (self.new.kept ≡ self.old.kept))) }
+        ensures counted { OnTrue (passes self.old.door.replicas block.now self.old.door.taken)
+            (self.new.door.taken
+            ≡ (if nat_lt (length (window self.old.kept.replica.chronicle))
+            (length (window self.new.kept.replica.chronicle))
+            then with_block self.old.door.base block.now self.old.door.taken
+            else self.old.door.taken)) }
+        ensures out { self.new.is_out ≡ guarding.out_after self.old.is_out input.entry result }
+    {
+        if !self.door.passes(block) && self.stands(&input) {
+            return self.step_and_note(share, input);
+        }
+        self.door.let_in(block)?;
+        self.take_in(share, input, block)
     }
 
     /// A step without a block. What the replica forgets by it the doorkeeper forgets too.
@@ -219,9 +264,9 @@ impl<'a> Guarded<'a> {
 
 /// Each step is one of the replica, or is refused: with `Full` where it holds as many blocks as it may; with `NotMine`
 /// for a beat of a replica that doesn't lead; with `BadHeight` for a block that climbs too far; with
-/// `WrongJustify` for a proposal that it would vote for, of which a block justifies one below the lock; and for a block that the doorkeeper
-/// doesn't let in with `Crowded`, or with `Memory` where it couldn't be counted. A block that is refused is lost, as on any
-/// network.
+/// `WrongJustify` for a proposal that it would vote for, of which a block justifies one below the lock; and for a block that
+/// doesn't stand yet and that the doorkeeper doesn't let in with `Crowded`, or with `Memory` where it couldn't be counted. A
+/// block that is refused is lost, as on any network.
 ///
 /// It heeds no prompt to propose at once while its last proposal is out: a beat would bring that proposal once more. The
 /// clock sends it again.
@@ -229,8 +274,7 @@ impl<'a> UnderLock for Guarded<'a> {
     ghost made = { λ old share input answer new share'.
         MatchBool (nat_lt (length (window old.kept.replica.chronicle)) old.most_blocks)
         (MatchOption (guarding.refusal old.kept input)
-        ((WholeStep old.kept share input answer new.kept share'
-        ⊎ ((answer ≡ Err Crowded) ⊎ (answer ≡ Err Memory)) × (new.kept ≡ old.kept) × (share' ≡ share))
+        ((WholeStep old.kept share input answer new.kept share' ⊎ IsKeptOut old.kept share input answer new.kept share')
         × (new.is_out ≡ guarding.out_after old.is_out input answer))
         (λ fault. (answer ≡ Err fault) × (new ≡ old) × (share' ≡ share)))
         ((answer ≡ Err Full) × (new ≡ old) × (share' ≡ share)) };

@@ -1,6 +1,6 @@
 //! A client's link over the links of the process.
 
-ghost use Rattle.std.specs.Prelude.{⊤};
+ghost use Rattle.std.specs.Prelude.{◌≡◌, ⊤};
 
 use crate::roll::Roll;
 use bytes::Bytes;
@@ -34,7 +34,9 @@ impl<R: Wait + Clock + AllocGlobal> ClientLink<R> {
         roll: Arc<Roll>,
         frames: ClientEnd,
         lies: bool,
-    ) -> ClientLink<R> {
+    ) -> ClientLink<R>
+        ensures { result.lies ≡ lies }
+    {
         ClientLink {
             rt,
             links,
@@ -84,7 +86,7 @@ impl<R: Wait + Clock + AllocGlobal> Link for ClientLink<R> {
     ghost carries = { λ before traffic after. ⊤ };
 
     fn is_open(&self) -> bool {
-        self.roll.is_open()
+        self.roll.is_open(&self.rt)
     }
 
     fn send(&mut self, frame: &[u8]) {

@@ -72,7 +72,7 @@ impl<'a, R: Wait + Clock + AllocGlobal + Clone + Drop> Deployment<'a, ClientSeat
         let alloc = rt.alloc();
         let closer = Closer::new(listener)?;
         let links = Arc::new(alloc, links)?;
-        let roll = Arc::new(alloc, Roll::new(keys.config()))?;
+        let roll = Arc::new(alloc, Roll::new(alloc, keys.config())?)?;
         let seats = seats(rt, &links, &roll, keys, clients, liar_clients)?;
         Ok(Deployment {
             listener,
@@ -101,7 +101,7 @@ impl<'a, S: Drop> Deployment<'a, S> {
         let (number, n) = (station.number().0, self.links.config().n());
         let going = self.roll.going(rt);
         warn!(rt; "replica {number} stopped: {fault}; {going} of {n} go on");
-        if !self.roll.is_open() {
+        if !self.roll.is_open(rt) {
             self.closer.close(&self.seats);
         }
     }

@@ -5,14 +5,19 @@
 #![tactic(auto)]
 
 mod ending;
+mod keys;
 mod late;
+mod options;
+mod usual;
 
 use crate::ending::end_of_few_blocks;
+use crate::keys::{keys, tell_key_file};
 use crate::late::late_replica;
+use crate::options::tell_all_options;
+use crate::usual::usual_runs;
 use anyhow::Result;
 use audit::{Verdict, WindowVerdict};
 use ids::Config;
-use key_file::PairKeys;
 use liars::{Liar, Lie};
 use server::{EndAudit, Liars, Terms, Workers, run};
 use std::alloc::Global;
@@ -24,17 +29,28 @@ use std::thread::join;
 /// How many connections each deployment serves.
 const CONNECTIONS: u64 = 6;
 
-/// Sends these words, and gives what comes back, to the end or as long as a piece.
-pub(crate) fn ask(alloc: Global, stream: &TcpStream, words: &str) -> Result<String> {
+/// Sends these words.
+pub(crate) fn tell(stream: &TcpStream, words: &str) -> Result<()> {
     (&mut &*stream).write_all(words.as_bytes())?;
+    Ok(())
+}
+
+/// What comes, to the end or as long as a piece.
+pub(crate) fn hear(alloc: Global, stream: &TcpStream) -> Result<String> {
     let mut piece = [0; 256];
     let count = (&mut &*stream).read(&mut piece)?;
     Ok(String::from_utf8_lossy(alloc, &piece[..count])?)
 }
 
+/// Sends these words, and gives what comes back, to the end or as long as a piece.
+pub(crate) fn ask(alloc: Global, stream: &TcpStream, words: &str) -> Result<String> {
+    tell(stream, words)?;
+    hear(alloc, stream)
+}
+
 /// What is read until the server ends the connection, and so has its seat back.
-fn ask_to_the_end(alloc: Global, stream: &TcpStream, words: &str) -> Result<String> {
-    (&mut &*stream).write_all(words.as_bytes())?;
+pub(crate) fn ask_to_the_end(alloc: Global, stream: &TcpStream, words: &str) -> Result<String> {
+    tell(stream, words)?;
     let mut all = Vec::new(alloc);
     (&mut &*stream).read_to_end(&mut all)?;
     Ok(String::from_utf8_lossy(alloc, &all)?)
@@ -83,32 +99,6 @@ fn clients_beside_one_that_lies<R: Net<Stream = TcpStream> + AllocGlobal>(
     let liar = TcpStream::connect(rt, at)?;
     (&mut &liar).write_all("set a 0 0 1\r\nz\r\n".as_bytes())?;
     clients(rt, at)
-}
-
-/// Appends the line of two parties, whose key is of their numbers.
-fn write_line(alloc: Global, text: &mut String, one: u16, other: u16) -> Result<()> {
-    let [a, b] = one.to_be_bytes();
-    let [c, d] = other.to_be_bytes();
-    let mut key = [7; 32];
-    key[..4].copy_from_slice(&[a, b, c, d]);
-    let digits = hex::encode(alloc, key.as_slice())?;
-    writeln!(text, "{one} {other} {digits}")?;
-    Ok(())
-}
-
-/// The keys of the replicas and clients of these sizes, which anyone can compute, by way of their file.
-fn keys(alloc: Global, config: Config) -> Result<PairKeys> {
-    let replicas = u16::from(config.n());
-    let mut text = String::new(alloc);
-    for one in 0..replicas {
-        for other in one..replicas {
-            write_line(alloc, &mut text, one, other)?;
-        }
-        for client in 0..u16::from(config.clients()) {
-            write_line(alloc, &mut text, one, 256 + client)?;
-        }
-    }
-    Ok(PairKeys::read(alloc, config, text.as_bytes())?)
 }
 
 /// Whether replicas were seen to fork.
@@ -279,5 +269,8 @@ fn main(rt: HostRuntime) -> Result<()> {
     }
     let keys = keys(rt.alloc(), Config::new(1, 1)?)?;
     end_of_few_blocks(&rt, &keys)?;
-    late_replica(&rt, &keys)
+    late_replica(&rt, &keys)?;
+    usual_runs(&rt)?;
+    tell_all_options(&rt)?;
+    tell_key_file(&rt)
 }

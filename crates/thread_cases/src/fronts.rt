@@ -1,9 +1,11 @@
-//! A front with one seat, and its clients, in one process. What each client reads is printed.
+//! Fronts with one seat or two, and their clients, in one process. What each client reads is printed.
 
 mod failing;
+mod seated;
 mod silence;
 
 use crate::fronts::failing::failing_scene;
+use crate::fronts::seated::seated_scene;
 use crate::fronts::silence::silent_scene;
 use anyhow::{Result, bail};
 use connection::Service;
@@ -156,6 +158,7 @@ where
     R: Net<Listener = TcpListener, Stream = TcpStream>,
 {
     usual_scene(rt)?;
+    seated_scene(rt)?;
     failing_scene(rt)?;
     silent_scene(rt, true)?;
     silent_scene(rt, false)

@@ -1,7 +1,7 @@
 //! What is said of the replicas at the end, in words.
 
 ghost use Rattle.std.specs.Prelude.{◌≡◌};
-ghost use Rattle.mcbft_main.specs.Words.{window_words, words};
+ghost use Rattle.command_line.specs.Words.{window_words, words};
 
 use audit::{Verdict, WindowVerdict};
 use server::EndAudit;
@@ -18,7 +18,7 @@ fn window_words(shown: &WindowVerdict) -> &'static str
 }
 
 /// What is said of the replicas. Where some have forgotten, and the others agree, it is what the windows of all show.
-pub(crate) fn words_of(audit: &EndAudit) -> &'static str
+pub fn words_of(audit: &EndAudit) -> &'static str
     ensures { result.now ≡ words audit.now }
 {
     match audit {

@@ -1,9 +1,24 @@
 //! What an audit answers, in words.
 
-use crate::audits::reasons::reason_of;
+use crate::reasons::reason_of;
 use audit::{CorePlace, Reason, Verdict, WindowVerdict, check_reason, judge, judge_windows};
+use command_line::words_of;
 use ids::Fault;
+use locked_replica::Kept;
 use replica::{Replica, Whole};
+use server::judge_kept;
+use std::alloc::Global;
+
+/// What is asked of replicas.
+#[derive(Clone, Copy)]
+pub(crate) enum Asked<'a> {
+    /// What an audit of them answers, and whether these reasons hold.
+    Reasons(&'a str),
+    /// What their windows show.
+    Windows,
+    /// The words with which `mcbft` would end.
+    Words,
+}
 
 fn tell_place(place: &CorePlace, text: &mut String) -> Result<(), Fault> {
     match place {
@@ -61,11 +76,7 @@ fn tell_asked(replicas: &[&Whole<'_>], field: &str, text: &mut String) -> Result
 }
 
 /// Tells what the audit of replicas answers, and which of the reasons in question hold.
-pub(crate) fn tell_all(
-    replicas: &[&Whole<'_>],
-    asked: &str,
-    text: &mut String,
-) -> Result<(), Fault> {
+fn tell_all(replicas: &[&Whole<'_>], asked: &str, text: &mut String) -> Result<(), Fault> {
     tell_verdict(replicas, text)?;
     for field in asked.split_whitespace() {
         tell_asked(replicas, field, text)?;
@@ -83,10 +94,63 @@ fn tell_shown(verdict: &WindowVerdict, text: &mut String) -> Result<(), Fault> {
 }
 
 /// Tells what the windows of replicas show.
-pub(crate) fn tell_windows(replicas: &[&Replica], text: &mut String) -> Result<(), Fault> {
+fn tell_windows(replicas: &[&Replica], text: &mut String) -> Result<(), Fault> {
     match judge_windows(replicas) {
         Ok(verdict) => tell_shown(&verdict, text)?,
         Err(fault) => write!(text, "{}", fault.number())?,
     }
     Ok(())
+}
+
+/// The replicas with their archives. None of them was pruned.
+fn whole_of<'b>(alloc: Global, replicas: &'b [Kept<'_>]) -> Result<Vec<Whole<'b>>, Fault> {
+    let mut all = Vec::new(alloc);
+    for kept in replicas {
+        all.push(kept.replica().whole().ok_or(Fault::Pruned)?)?;
+    }
+    Ok(all)
+}
+
+/// References to them.
+fn lent<'b, 'a>(alloc: Global, replicas: &'b [Whole<'a>]) -> Result<Vec<&'b Whole<'a>>, Fault> {
+    let mut lent = Vec::new(alloc);
+    for replica in replicas {
+        lent.push(replica)?;
+    }
+    Ok(lent)
+}
+
+/// References to replicas, without their archives.
+fn plain<'b>(alloc: Global, replicas: &'b [Kept<'_>]) -> Result<Vec<&'b Replica>, Fault> {
+    let mut plain = Vec::new(alloc);
+    for kept in replicas {
+        plain.push(kept.replica().replica())?;
+    }
+    Ok(plain)
+}
+
+/// Tells the words with which `mcbft` would end where these are its replicas.
+fn tell_words(replicas: &[Kept<'_>], text: &mut String) -> Result<(), Fault> {
+    match judge_kept(replicas) {
+        Ok(audit) => text.push_str(words_of(&audit))?,
+        Err(fault) => write!(text, "{}", fault.number())?,
+    }
+    Ok(())
+}
+
+/// Tells what is asked of replicas.
+pub(crate) fn tell_asked_of(
+    alloc: Global,
+    replicas: &[Kept<'_>],
+    asked: Asked<'_>,
+    text: &mut String,
+) -> Result<(), Fault> {
+    match asked {
+        Asked::Reasons(reasons) => {
+            let whole = whole_of(alloc, replicas)?;
+            tell_all(&lent(alloc, &whole)?, reasons, text)
+        }
+        Asked::Windows => tell_windows(&plain(alloc, replicas)?, text),
+        Asked::Words => tell_words(replicas, text),
+    }
 }

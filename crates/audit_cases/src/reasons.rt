@@ -1,6 +1,6 @@
 //! Reasons, as a line asks about them.
 
-use crate::audits::replicas::number;
+use crate::replicas::number;
 use audit::{CorePlace, Reason};
 use ids::{Digest, Fault, ReplicaId};
 

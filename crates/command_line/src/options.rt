@@ -1,11 +1,17 @@
 //! The command line.
 
+ghost use Rattle.std.specs.Prelude.{◌≡◌, IfOk, IfSome, Some};
+ghost use Rattle.clap.specs.Words.{found_of};
+ghost use Rattle.command_line.specs.Options.{AreLiars, AreOptions, AreTerms, IsWindow};
+ghost use Rattle.command_line.specs.Options.{number_of, sizes_of, unless_zero, workers_of};
+
 use clap::builder::ValueParser;
 use clap::{Arg, ArgAction, ArgMatches, Command, Error};
-use ids::Height;
+use ids::{Config, Fault, Height};
 use liars::{Liar, Lie};
 use server::{Liars, Terms, Workers};
 use std::alloc::{AllocError, Global};
+use std::convert::AsStr;
 use std::hash::RandomState;
 
 /// What stands behind the options in `--help`.
@@ -195,7 +201,7 @@ const WORDS: [Word; 19] = [
 ];
 
 /// What the words of a command line say.
-pub(crate) fn matches_of(alloc: Global, words: &[String]) -> Result<ArgMatches<'_>, Error> {
+pub fn matches_of<S: AsStr>(alloc: Global, words: &[S]) -> Result<ArgMatches<'_>, Error> {
     let command = Command::new(alloc, "mcbft")
         .bin_name("mcbft")?
         .version("0.1.0")
@@ -257,68 +263,99 @@ fn archive_arg(alloc: Global) -> Arg<'static> {
 
 /// What the words ask for.
 #[derive(Clone, Copy)]
-pub(crate) struct Options<'a> {
-    pub(crate) keys: &'a str,
-    pub(crate) faults: u8,
-    pub(crate) clients: u8,
-    pub(crate) port: u16,
-    pub(crate) keys_held: u32,
+pub struct Options<'a> {
+    /// The key file's path.
+    pub keys: &'a str,
+    pub faults: u8,
+    pub clients: u8,
+    pub port: u16,
+    /// How many keys the cache holds.
+    pub keys_held: u32,
     /// How many replicas lie, where a lie is named.
-    pub(crate) liars: u8,
-    pub(crate) terms: Terms,
+    pub liars: u8,
+    pub terms: Terms,
+}
+
+/// The number of an option, or what stands for it.
+fn read_number(matches: &ArgMatches<'_>, name: &str) -> Option<u64>
+    ensures { IfSome result (λ n. number_of (found_of matches.now) name.now ≡ Some n) }
+{
+    matches.get_one(name)
+}
+
+/// How many heights replicas keep: none is forgotten where there is to be an archive.
+fn window_of(matches: &ArgMatches<'_>, window: u64) -> Option<u64>
+    ensures { IsWindow (found_of matches.now) window result }
+{
+    if matches.get_flag("archive") {
+        None
+    } else {
+        Some(window)
+    }
+}
+
+/// How replicas are to run, of which so many lie.
+fn terms_of(matches: &ArgMatches<'_>, liars: u8, hasher: RandomState) -> Option<Terms>
+    ensures { IfSome result (AreTerms (found_of matches.now) liars) }
+{
+    let most = read_number(matches, "serve")?;
+    let window = read_number(matches, "window")?;
+    Some(Terms {
+        liars: liars_of(matches, liars),
+        liar_clients: u8::try_from(read_number(matches, "liar-client")?).ok()?,
+        most: unless_zero(most).unwrap_or(u64::MAX),
+        blocks: unless_zero(read_number(matches, "blocks")?).map(|blocks| blocks as usize),
+        window: window_of(matches, window),
+        window_most: unless_zero(read_number(matches, "window-most")?),
+        record: read_number(matches, "record")?,
+        late: unless_zero(read_number(matches, "late")?).map(|height| Height(height)),
+        workers: workers_of(read_number(matches, "workers")?),
+        watch: unless_zero(read_number(matches, "watch")?),
+        hasher,
+    })
 }
 
 impl<'a> Options<'a> {
+    /// The sizes of the deployment. `BadSize` where they are out of their limits, or nobody or more than F are to lie;
+    /// `BadKeys` where the cache has no such room.
+    pub fn config(&self) -> Result<Config, Fault>
+        ensures { IfOk result (λ config. config ≡ sizes_of self.now) }
+    {
+        let sizes = Config::new(self.faults, self.clients)?;
+        if self.liars == 0 || self.liars > self.faults {
+            return Err(Fault::BadSize);
+        }
+        sizes.with_most_keys(self.keys_held as usize)
+    }
+
     /// The options that were read. All have a value, or a default. The hasher is the caches'.
-    pub(crate) fn read(matches: &ArgMatches<'a>, hasher: RandomState) -> Option<Options<'a>> {
-        let most: u64 = matches.get_one("serve")?;
-        let blocks: u32 = matches.get_one("blocks")?;
-        let window: u32 = matches.get_one("window")?;
-        let liars: u8 = matches.get_one("liars")?;
-        let record: u32 = matches.get_one("record")?;
+    pub fn read(matches: &ArgMatches<'a>, hasher: RandomState) -> Option<Options<'a>>
+        ensures { IfSome result (AreOptions (found_of matches.now)) }
+    {
+        let liars = u8::try_from(read_number(matches, "liars")?).ok()?;
         Some(Options {
             keys: matches.get_str("keys")?,
-            faults: matches.get_one("faults")?,
-            clients: matches.get_one("clients")?,
-            port: matches.get_one("port")?,
-            keys_held: matches.get_one("keys-held")?,
+            faults: u8::try_from(read_number(matches, "faults")?).ok()?,
+            clients: u8::try_from(read_number(matches, "clients")?).ok()?,
+            port: u16::try_from(read_number(matches, "port")?).ok()?,
+            keys_held: u32::try_from(read_number(matches, "keys-held")?).ok()?,
             liars,
-            terms: Terms {
-                liars: liars_of(matches, liars),
-                liar_clients: matches.get_one("liar-client")?,
-                most: if most == 0 { u64::MAX } else { most },
-                blocks: if blocks == 0 {
-                    None
-                } else {
-                    Some(blocks as usize)
-                },
-                window: if matches.get_flag("archive") {
-                    None
-                } else {
-                    Some(u64::from(window))
-                },
-                window_most: unless_zero(matches.get_one("window-most")?),
-                record: u64::from(record),
-                late: unless_zero(matches.get_one("late")?).map(|height| Height(height)),
-                workers: workers_of(matches.get_one("workers")?),
-                watch: unless_zero(matches.get_one("watch")?),
-                hasher,
-            },
+            terms: terms_of(matches, liars, hasher)?,
         })
     }
 }
 
 /// A number for which 0 stands for none.
-fn unless_zero(number: u32) -> Option<u64> {
-    if number == 0 {
-        None
-    } else {
-        Some(u64::from(number))
-    }
+fn unless_zero(number: u64) -> Option<u64>
+    ensures { result ≡ unless_zero number }
+{
+    if number == 0 { None } else { Some(number) }
 }
 
 /// So many workers, of which there are at most two.
-fn workers_of(number: u8) -> Workers {
+fn workers_of(number: u64) -> Workers
+    ensures { result ≡ workers_of number }
+{
     if number < 2 {
         Workers::One
     } else {
@@ -358,12 +395,15 @@ fn liar_of(name: &str, seed: u64) -> Option<Liar> {
 }
 
 /// The replicas that are to lie, if some are.
-fn liars_of(matches: &ArgMatches<'_>, count: u8) -> Option<Liars> {
-    let seed: u64 = matches.get_one("liar-seed")?;
-    let until: u32 = matches.get_one("liar-until")?;
+fn liars_of(matches: &ArgMatches<'_>, count: u8) -> Option<Liars>
+    ensures { AreLiars (found_of matches.now) count result }
+{
+    let name = matches.get_str("liar")?;
+    let seed = read_number(matches, "liar-seed")?;
+    let until = unless_zero(read_number(matches, "liar-until")?);
     Some(Liars {
-        liar: liar_of(matches.get_str("liar")?, seed)?,
+        liar: liar_of(name, seed)?,
         count,
-        until: unless_zero(until),
+        until,
     })
 }

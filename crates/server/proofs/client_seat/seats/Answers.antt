@@ -1,0 +1,43 @@
+use Rattle.std.proofs.Common.{arith, ◌≡◌, ◌+◌, Bool, map, ap, ◌∙◌, refl, inl, inr, Err}
+use Rattle.std.proofs.lemmas.Result.{IfOk-weaker, err_from_is_err_and, on_err_weaker}
+use Rattle.std.specs.List.{range_with_len}
+use Rattle.ids.specs.Sizes.{Sizes}
+use Rattle.ids.specs.declared.fault.Fault.TheVariants.{Memory, NoSuchParty}
+use Rattle.client_accept.specs.Sessions.{Held}
+use Rattle.server.specs.Seating.{first_session, seated, sits}
+use Rattle.server.proofs.Numbers.{seen_more}
+use Rattle.server.proofs.client_seat.seats.Goals as goal
+
+pub returns-in_err-seated-clause-refused : goal.returns-in_err-seated-clause-refused
+returns-in_err-seated-clause-refused g c =
+    let p = err_from_is_err_and c.from_residual-in_err-seated.result c.from_residual-in_err-seated.ensures.1 in
+    let fault = c.in_err-seated.field-0.0 in
+    rw (p.1, p.2)
+    (elim c.in_err-seated.ensures.refused [
+      | inl h ↦ let is : fault ≡ Memory = cc in inl (ap Err is)
+      | inr h ↦ let is : fault ≡ NoSuchParty = cc in inr (ap Err is)
+    ])
+
+pub loop-number-preserved : goal.loop-number-preserved
+loop-number-preserved g c =
+    let keys = c.args.keys.now in
+    let seat = c.in_ok-seated.seated in
+    let one : sits seat ≡ seated keys c.args.liars c.loop-number.number =
+    ap (λ (held : Held). (held, seat.link.lies)) c.in_ok-seated.ensures.session
+    ∙ ap (λ (lies : Bool). (first_session keys c.loop-number.number, lies)) c.in_ok-seated.ensures.lies in
+    seen_more sits (seated keys c.args.liars) c.reserve.new.self.items c.push_reserved.new.self.items seat
+    c.loop-number.number (c.loop-number.number + 1) c.push_reserved.ensures.items
+    (ap (map sits) c.reserve.ensures.items ∙ c.loop-number.invariant) one refl
+
+pub returns-clause-seated : goal.returns-clause-seated
+returns-clause-seated g c =
+    let keys = c.args.keys.now in
+    let last : c.loop-number.number ≡ keys.sizes.clients =
+    omega (arith, c.clients-number-end.ensures, ap (λ (sizes : Sizes). sizes.clients) c.config.ensures) in
+    IfOk-weaker c.new.result _ _
+    (λ made is. ap (map sits) is ∙ c.loop-number.invariant
+    ∙ ap (λ n. map (seated keys c.args.liars) (range_with_len 0 n)) last)
+    c.new.ensures.all
+
+pub returns-clause-refused : goal.returns-clause-refused
+returns-clause-refused g c = on_err_weaker c.new.result (λ e. inl e) c.new.ensures.memory
