@@ -18,14 +18,14 @@ use Rattle.definitions.specs.Runs.{refusal, after}
 use Rattle.definitions.specs.Events.{happens, recorded}
 use Rattle.linear_law.proofs.WholeRuns.{slice_get-among}
 use Rattle.recovery.specs.Correct.{OfCorrect, ShareKeys, chronicle_of}
-use Rattle.recovery.specs.NeverWedged.{IsAsked, WaitingClientsAsked}
+use Rattle.recovery.specs.NeverWedged.{IsAsked, WaitingClientsAsked, RequestsNameClients}
 use Rattle.definitions.specs.Lists.{Among}
 use Rattle.std.proofs.Common.{suc, inl, inr}
 use Rattle.recovery.proofs.Wells.{reached}
 use Rattle.recovery.proofs.Asked.{relay-hands}
 use Rattle.recovery.proofs.Copies.{vector-verifies, correct-party}
 use Rattle.recovery.proofs.Offers.{slice-later, slice-there}
-use Rattle.recovery.proofs.SentRequests.{IsOwn, AreOwn}
+use Rattle.recovery.proofs.SentRequests.{IsOwn, AreOwn, own-of}
 use Rattle.recovery.proofs.Steps.{TookStep, step-stood}
 use Rattle.recovery.proofs.Ways.{IsOnWay, way-on}
 use Rattle.recovery.proofs.Worlds.{IsMadeAs, same-correct, same-self, named}
@@ -72,7 +72,7 @@ pub asked-wanted : (w : World) (k cl : ℕ) → ShareKeys w → AreOwn w w.sent 
 asked-wanted w k cl keys own h =
     let c : Command = h.command in
     let among = slice_get-among w.sent k h.sent h.recorded in
-    let is : IsOwn w cl c = own h.sent among c h.request cl h.sender in (
+    let is : IsOwn w cl c = own-of w h.sent c cl own among h.request h.sender in (
       record {
         is_recorded = ap (λ (o : Option Sent). option_map (λ s. s.frame) o) h.recorded
             ∙ ap (λ (f : Frame). Some f) h.request;
@@ -109,6 +109,12 @@ waiting-asked sizes is_faulty ring hs last met e client low ok waits =
         seq = r.5;
       },
     )
+
+-- a request names the client that sent it
+pub requests-named : RequestsNameClients
+requests-named sizes is_faulty ring hs last met e s m c is =
+    let own = (reached sizes is_faulty ring hs last met e).requests s m c is in
+    own.1 ∙ ap client_party (sym (ap (λ (x : Command). x.client) own.2.0))
 
 -- ---- it comes
 

@@ -1,4 +1,4 @@
--- A request that a client sent is one that it makes with its keys.
+-- A request that was sent is one that a client makes with its keys.
 use Rattle.std.proofs.Common.{ℕ, suc, ◌≡◌, List, refl, sym, ap, subst, ◌∙◌, inl, inr}
 use Rattle.std.proofs.Common.{None, ◌<◌, arith}
 use Rattle.ids.specs.Sizes.{client_party}
@@ -29,11 +29,11 @@ use Rattle.recovery.proofs.Steps.{outs}
 abbrev pub IsOwn : World → ℕ → Command → Type 0
 IsOwn w cl c = (c ≡ asked (client_of w cl) c.seq c.payload) × (0 < c.seq)
 
--- so is each of these requests that a client sent
+-- each of these requests is one of the client that sent it
 abbrev pub AreOwn : World → List Sent → Type 0
 AreOwn w sent =
-    (s : Sent) → Among s sent → (c : Command) → s.frame ≡ frame.request c → (cl : ℕ) → s.sender ≡ client_party cl
-    → IsOwn w cl c
+    (s : Sent) → Among s sent → (c : Command) → s.frame ≡ frame.request c
+    → (cl : ℕ) × (s.sender ≡ client_party cl) × IsOwn w cl c
 
 -- what a client submits is its own
 submitted-own : (me : Client) (payload : Bytes) (s : Session) (x : Session × Submitted) → IsAsked me payload s x
@@ -47,31 +47,41 @@ submitted-own me payload s x given o (inr k) c h = absurd k
 
 -- what goes out in an event
 out-own : (Known : Core → Type 0) (w : World) (e : Event) (m : MemorySupply) (f : Effect) → IsWell Known w
-    → Effects w e m f → (o : Sending) → Among o f.out → (c : Command) → o.1 ≡ frame.request c → (cl : ℕ)
-    → party_of e ≡ client_party cl → IsOwn w cl c
+    → Effects w e m f → (o : Sending) → Among o f.out → (c : Command) → o.1 ≡ frame.request c
+    → (cl : ℕ) × (party_of e ≡ client_party cl) × IsOwn w cl c
 unfolding nothing stepped told submitted
-out-own Known w e m f g (idle a n) o k c h cl by = absurd k
-out-own Known w e m f g (step_by i me ar) o k c h cl by =
+out-own Known w e m f g (idle a n) o k c h = absurd k
+out-own Known w e m f g (step_by i me ar) o k c h =
     absurd (outcome-not (self_of w (party_of e)) m
     (ruling (self_of w (party_of e)) i (w.replica (party_of e)).chronicle) (w.replica (party_of e)) _
     (step-outcome (self_of w (party_of e)) m i (w.replica (party_of e)) (arises-checked w e i ar)
     (g.good.run.row.sound (party_of e) me)) o k c h)
-out-own Known w e m f g (hearing x b a n k l) o q c h cl by = absurd q
-out-own Known w e m f g (submitting i payload n k) o q c h cl by =
-    subst (λ (j : ℕ). IsOwn w j c) (same-client i cl (sym (submit-party e i payload n) ∙ by))
-    (submitted-own (client_of w i) payload (w.session i) _
-    (submission-asked (client_of w i) m payload (w.session i)) o q c h)
+out-own Known w e m f g (hearing x b a n k l) o q c h = absurd q
+out-own Known w e m f g (submitting i payload n k) o q c h = (
+  i,
+  submit-party e i payload n,
+  submitted-own (client_of w i) payload (w.session i) _
+      (submission-asked (client_of w i) m payload (w.session i)) o q c h,
+)
 
 -- an event leaves them so
 pub happens-own : (Known : Core → Type 0) (w : World) (h : Happening) → IsWell Known w → ComesFramed w h.0
     → refusal w h.0 ≡ None → AreOwn w w.sent → AreOwn (happens w h) (happens w h).sent
 unfolding happens
-happens-own Known w h g framed ok old s m c e cl by =
+happens-own Known w h g framed ok old s m c e =
     elim (Among-either s w.sent (outs w (party_of h.0) (effect w h).out) m) [
-      | inl k ↦ old s k c e cl by
+      | inl k ↦ old s k c e
       | inr k ↦ (
           let i = Among-map (λ (o : Sending). record { event = w.now; sender = party_of h.0; to = o.0; frame = o.1 })
           (effect w h).out s k in
-          out-own Known w h.0 h.1 (effect w h) g (effects w h.0 h.1 framed ok) i.0 i.1 c
-          (sym (ap (λ (y : Sent). y.frame) i.2) ∙ e) cl (sym (ap (λ (y : Sent). y.sender) i.2) ∙ by))
+          let by = out-own Known w h.0 h.1 (effect w h) g (effects w h.0 h.1 framed ok) i.0 i.1 c
+          (sym (ap (λ (y : Sent). y.frame) i.2) ∙ e) in
+          (by.0, ap (λ (y : Sent). y.sender) i.2 ∙ by.1, by.2))
     ]
+
+-- so it is of the client that is known to have sent it
+pub own-of : (w : World) (s : Sent) (c : Command) (cl : ℕ) → AreOwn w w.sent → Among s w.sent
+    → s.frame ≡ frame.request c → s.sender ≡ client_party cl → IsOwn w cl c
+own-of w s c cl own m e by =
+    let x = own s m c e in
+    subst (λ (j : ℕ). IsOwn w j c) (same-client x.0 cl (sym x.1 ∙ by)) x.2

@@ -95,6 +95,12 @@ WaitingClientsAsked =
     AfterEachRun (λ w. (client : ℕ) → client < w.sizes.clients → w.is_faulty (client_party client) ≡ false
     → (w.session client).waiting ≡ true → (k : ℕ) × IsAsked w k client)
 
+-- a request of the record names the client that sent it
+abbrev pub RequestsNameClients : Type 0
+RequestsNameClients =
+    AfterEachRun (λ w. (s : Sent) → Among s w.sent → (c : Command) → s.frame ≡ frame.request c
+    → s.sender ≡ client_party c.client)
+
 -- the client has a receipt for its request of this number
 abbrev pub IsAnswered : World → ℕ → ℕ → Type 0
 IsAnswered w client seq =

@@ -10,6 +10,7 @@ ghost use Rattle.recovery.specs.Rounds.{ProposalsAreTaken, ThreeMoreDecide, Burs
 ghost use Rattle.recovery.specs.Rounds.{RoundsDecide};
 ghost use Rattle.recovery.specs.Requests.{RequestsAreExecuted, RepliesConvince};
 ghost use Rattle.recovery.specs.NeverWedged.{NeverWedged, FirstRequestsMayHeal, WaitingClientsAsked};
+ghost use Rattle.recovery.specs.NeverWedged.{RequestsNameClients};
 ghost use Rattle.recovery.specs.Inventions.{HealingForgesNothing, RunsAreHealed};
 
 /// Timeouts alone bring all correct replicas into any view that none of them passed; nothing else changes.
@@ -102,6 +103,11 @@ pub fn requests_are_executed()
 /// Whoever waits sent its request, so that it is in the record.
 pub fn waiting_clients_asked()
     ensures { WaitingClientsAsked }
+{}
+
+/// Each request of the record names the client that sent it.
+pub fn requests_name_clients()
+    ensures { RequestsNameClients }
 {}
 
 /// And the client has its receipt, once its request comes to them again, and their replies to it.
