@@ -124,7 +124,7 @@ line_push : (ds : Bytes) (d : ℕ) → IsLine ds → d ≢ 10 → IsLine (ds ++ 
 line_push [] d line other = (other, tt)
 line_push (x ∷ xs) d line other = (line.0, line_push xs d line.1 other)
 
-decimal_line : (n : ℕ) → n < 2 ^ 64 → IsLine (decimal n)
+pub decimal_line : (n : ℕ) → n < 2 ^ 64 → IsLine (decimal n)
 decimal_line n small = decimal_by_steps (λ _ ds. IsLine ds)
     (λ d low. (λ e. omega (arith, e), tt))
     (λ d ds high line. line_push ds (48 + d % 10) line (λ e. omega (arith, e))) n small
@@ -137,7 +137,7 @@ visible_line (b ∷ bs) all =
     let high : 32 < b = ltb-true _ _ seen.0 in
     (λ e. omega (arith, e, high), visible_line bs parts.1)
 
-address_is_line : (bs : Bytes) → IsAddress bs → IsLine bs
+pub address_is_line : (bs : Bytes) → IsAddress bs → IsLine bs
 address_is_line bs fits = visible_line bs (and_parts (nat_lt 0 (length bs)) (list_all is_visible bs) fits).1
 
 -- a number that is the whole of a line

@@ -1,5 +1,5 @@
 -- A deployment, and its file.
-use Rattle.std.specs.Prelude.{◌≡◌, ℕ, ◌+◌, ◌≤◌, List, [], ◌∷◌, ◌++◌, length, sum, decimal, codes}
+use Rattle.std.specs.Prelude.{◌≡◌, ◌≢◌, ℕ, ◌+◌, ◌≤◌, List, [], ◌∷◌, ◌++◌, length, sum, decimal, codes}
 use Rattle.std.specs.List.{AllByRecursion}
 use Rattle.ids.specs.Sizes.{Sizes, AreSizes, replicas}
 use Rattle.definitions.specs.Bytes.{Bytes}
@@ -49,3 +49,11 @@ fronts_text k (clients ∷ more) rest =
 -- the file of a deployment
 abbrev pub text_of : Deployment → Bytes
 text_of d = sizes_text d.sizes (replicas_text 0 d.addresses (fronts_text 0 d.fronts []))
+
+-- the text is the file of no deployment
+abbrev pub IsNoFile : Bytes → Type 0
+IsNoFile text = (d : Deployment) → IsDeployment d → text ≢ text_of d
+
+-- no text is the file of two deployments
+abbrev pub IsOfOneDeployment : Type 0
+IsOfOneDeployment = (c d : Deployment) → IsDeployment c → IsDeployment d → text_of c ≡ text_of d → c ≡ d

@@ -1,5 +1,6 @@
-ghost use Rattle.std.specs.Prelude.{◌≡◌, IfOk, option_map, slice_get};
-ghost use Rattle.deployment.specs.Deployments.{text_of};
+ghost use Rattle.std.specs.Prelude.{◌≡◌, ℕ, IfOk, Err, option_map, slice_get};
+ghost use Rattle.deployment.specs.declared.refusal.Refusal.TheVariants as refusal;
+ghost use Rattle.deployment.specs.Deployments.{IsNoFile, text_of};
 
 use crate::fronts::read_fronts;
 use crate::refusal::Refusal;
@@ -39,7 +40,8 @@ impl<'a> Model for Deployment<'a> {
 impl<'a> Deployment<'a> {
     /// Reads a deployment file, all of it. A refusal names the first line that isn't what has to stand there.
     pub fn read(alloc: Global, text: &'a [u8]) -> Result<Deployment<'a>, Refusal>
-        ensures { IfOk result (λ d. text.now ≡ text_of d) }
+        ensures read { IfOk result (λ d. text.now ≡ text_of d) }
+        ensures bad { (line : ℕ) → result ≡ Err (refusal.BadLine line) → IsNoFile text.now }
     {
         let sizes = match read_sizes(text) {
             Ok(sizes) => sizes,

@@ -1,6 +1,7 @@
 //! The lines of the fronts, which end the file.
 
-ghost use Rattle.std.specs.Prelude.{◌≡◌, IfOk, []};
+ghost use Rattle.std.specs.Prelude.{◌≡◌, ◌≢◌, ℕ, List, [], IfOk, Err};
+ghost use Rattle.deployment.specs.declared.refusal.Refusal.TheVariants as refusal;
 ghost use Rattle.deployment.specs.Deployments.{AreFronts, fronts_text};
 
 use crate::fields::number_of;
@@ -17,6 +18,8 @@ pub(crate) fn read_fronts(
 ) -> Result<Vec<u8>, Refusal>
     ensures fronts { IfOk result (λ fronts. AreFronts config.clients fronts.items) }
     ensures text { IfOk result (λ fronts. text.now ≡ fronts_text 0 fronts.items []) }
+    ensures bad { (line : ℕ) → result ≡ Err (refusal.BadLine line) → (found : List ℕ)
+        → AreFronts config.clients found → text.now ≢ fronts_text 0 found [] }
 {
     let clients = config.clients();
     let mut rest = text;

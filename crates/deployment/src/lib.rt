@@ -10,9 +10,11 @@
 mod deployment;
 mod fields;
 mod fronts;
+mod laws;
 mod refusal;
 mod replicas;
 mod sizes;
 
 pub use deployment::Deployment;
+pub use laws::a_file_is_of_one_deployment;
 pub use refusal::Refusal;

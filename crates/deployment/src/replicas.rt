@@ -1,7 +1,9 @@
 //! The lines of the replicas.
 
-ghost use Rattle.std.specs.Prelude.{◌≡◌, IfOk, map, []};
+ghost use Rattle.std.specs.Prelude.{◌≡◌, ◌≢◌, ℕ, List, [], IfOk, Err, map};
 ghost use Rattle.ids.specs.Sizes.{replicas};
+ghost use Rattle.definitions.specs.Bytes.{Bytes};
+ghost use Rattle.deployment.specs.declared.refusal.Refusal.TheVariants as refusal;
 ghost use Rattle.deployment.specs.Deployments.{AreAddresses, replicas_text};
 
 use crate::fields::address_of;
@@ -19,6 +21,8 @@ pub(crate) fn read_replicas<'a>(
     ensures count { IfOk result (λ rest. AreAddresses (replicas config) (map (λ a. a.now) addresses.new.items)) }
     ensures text { IfOk result
         (λ rest. text.now ≡ replicas_text 0 (map (λ a. a.now) addresses.new.items) rest.now) }
+    ensures bad { (line : ℕ) → result ≡ Err (refusal.BadLine line) → (found : List Bytes) (rest : Bytes)
+        → AreAddresses (replicas config) found → text.now ≢ replicas_text 0 found rest }
 {
     let mut rest = text;
     for replica in 0..config.n() {

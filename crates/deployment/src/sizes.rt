@@ -1,7 +1,8 @@
 //! The first three lines: the sizes.
 
-ghost use Rattle.std.specs.Prelude.{◌≡◌, IfOk, IfSome, IfNone};
-ghost use Rattle.ids.specs.Sizes.{AreSizes};
+ghost use Rattle.std.specs.Prelude.{◌≡◌, ◌≢◌, IfOk, IfSome, IfNone, OnErr};
+ghost use Rattle.ids.specs.Sizes.{Sizes, AreSizes};
+ghost use Rattle.definitions.specs.Bytes.{Bytes};
 ghost use Rattle.deployment.specs.Deployments.{sizes_text};
 
 use crate::fields::number_at;
@@ -26,7 +27,8 @@ fn sized(faults: u64, clients: u64, kept: u64) -> Option<Config>
 
 /// The sizes at the front of a text, and what stands behind them.
 pub(crate) fn read_sizes(text: &[u8]) -> Result<(Config, &[u8]), Refusal>
-    ensures { IfOk result (λ read. text.now ≡ sizes_text read.0 read.1.now) }
+    ensures read { IfOk result (λ read. text.now ≡ sizes_text read.0 read.1.now) }
+    ensures bad { OnErr result ((sizes : Sizes) (rest : Bytes) → AreSizes sizes → text.now ≢ sizes_text sizes rest) }
 {
     let Some(faults) = number_at(text, b"faults ") else {
         return Err(Refusal::BadLine(1));
