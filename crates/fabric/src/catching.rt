@@ -89,8 +89,8 @@ impl<'a, G: Gate, O: Outgoing + Questioned + Recording> Worker<'a, G, O> {
         ensures { HasGrown share.old share.new }
     {
         match self.bring(rt, steps, share, OWN, bytes) {
-            Ok(voted) => {
-                self.taken(rt, steps, share, bytes, voted);
+            Ok(()) => {
+                self.taken(rt, steps, share, bytes);
                 true
             }
             Err(Fault::BadTag | Fault::WrongJustify) => {

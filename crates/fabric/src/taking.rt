@@ -38,8 +38,7 @@ fn slices<'b>(alloc: Global, frames: &'b [Bytes]) -> Result<Vec<&'b [u8]>, Alloc
 }
 
 impl<'a, G: Gate, O: Outgoing + Questioned + Recording> Worker<'a, G, O> {
-    /// The turn of one frame; where a tag isn't right, it is offered. What it sends goes out. For which block the replica voted
-    /// by it, if for one.
+    /// The turn of one frame; where a tag isn't right, it is offered. What it sends goes out.
     pub(crate) fn bring<R: Wait + Clock, S: Steps>(
         &mut self,
         rt: &R,
@@ -47,7 +46,7 @@ impl<'a, G: Gate, O: Outgoing + Questioned + Recording> Worker<'a, G, O> {
         share: &mut Share,
         number: u64,
         bytes: &Bytes,
-    ) -> Result<Option<Digest>, Fault>
+    ) -> Result<(), Fault>
         ensures { HasGrown share.old share.new }
     {
         let answer = turn(
@@ -65,18 +64,18 @@ impl<'a, G: Gate, O: Outgoing + Questioned + Recording> Worker<'a, G, O> {
         }
     }
 
-    /// What a step sends goes out that a frame brought about, and the frame is recorded. For which block the replica voted.
+    /// What a step sends goes out that a frame brought about, and the frame is recorded.
     fn finish<R: Wait>(
         &mut self,
         rt: &R,
         bytes: &Bytes,
         answer: Result<Out, Fault>,
-    ) -> Result<Option<Digest>, Fault> {
+    ) -> Result<(), Fault> {
         let out = answer?;
         let voted = voted_for(&self.keyring.config(), &out);
         self.send_all(rt, out);
         self.out.record(rt, bytes, voted);
-        Ok(voted)
+        Ok(())
     }
 
     /// Offers a frame, if its own tag is right. What the step sends goes out.
@@ -86,7 +85,7 @@ impl<'a, G: Gate, O: Outgoing + Questioned + Recording> Worker<'a, G, O> {
         steps: &mut S,
         share: &mut Share,
         bytes: &Bytes,
-    ) -> Option<Result<Option<Digest>, Fault>>
+    ) -> Option<Result<(), Fault>>
         ensures { HasGrown share.old share.new }
     {
         let keyring = self.keyring.verifying();
@@ -111,7 +110,7 @@ impl<'a, G: Gate, O: Outgoing + Questioned + Recording> Worker<'a, G, O> {
         share: &mut Share,
         number: u64,
         bytes: &Bytes,
-    ) -> Result<Option<Digest>, Fault>
+    ) -> Result<(), Fault>
         ensures { HasGrown share.old share.new }
     {
         let tried_at = self.room.news();
@@ -142,7 +141,7 @@ impl<'a, G: Gate, O: Outgoing + Questioned + Recording> Worker<'a, G, O> {
         steps: &mut S,
         share: &mut Share,
         frame: Unfounded,
-    ) -> Result<Option<Digest>, Fault>
+    ) -> Result<(), Fault>
         ensures { HasGrown share.old share.new }
     {
         let Some((carried, sender)) = Carried::from(&self.keyring.config(), frame.bytes.as_slice())
@@ -173,13 +172,13 @@ impl<'a, G: Gate, O: Outgoing + Questioned + Recording> Worker<'a, G, O> {
         steps: &mut S,
         share: &mut Share,
         copies: Vec<Bytes>,
-    ) -> Result<Option<Digest>, Fault>
+    ) -> Result<(), Fault>
         ensures { HasGrown share.old share.new }
     {
         let frames = slices(self.alloc, &copies)?;
         let out = gather(rt, steps, share, self.keyring.verifying(), &frames)?;
         self.send_all(rt, out);
-        Ok(None)
+        Ok(())
     }
 
     /// Brings the frames that lack this block, which the replica has by now, and those that lack a
@@ -260,7 +259,7 @@ impl<'a, G: Gate, O: Outgoing + Questioned + Recording> Worker<'a, G, O> {
             return;
         }
         let _copy = self.room.take_number(rt, number);
-        if let (Ok(_), Some(block)) = (brought, brings) {
+        if let (Ok(()), Some(block)) = (brought, brings) {
             self.release(rt, steps, share, block);
         }
     }
@@ -302,21 +301,19 @@ impl<'a, G: Gate, O: Outgoing + Questioned + Recording> Worker<'a, G, O> {
             return;
         }
         match self.bring(rt, steps, share, number, &bytes) {
-            Ok(voted) => self.taken(rt, steps, share, &bytes, voted),
+            Ok(()) => self.taken(rt, steps, share, &bytes),
             Err(Fault::UnknownParent) => self.take_later(rt, steps, share, number, bytes),
             Err(_) => {}
         }
     }
 
-    /// A frame was taken, by which the replica voted for this block, if for one. A request is kept. What waited for the block that
-    /// it brings comes next.
+    /// A frame was taken. A request is kept. What waited for the block that it brings comes next.
     pub(crate) fn taken<R: Wait + Clock, S: Steps>(
         &mut self,
         rt: &R,
         steps: &mut S,
         share: &mut Share,
         bytes: &Bytes,
-        voted: Option<Digest>,
     )
         ensures { HasGrown share.old share.new }
     {
@@ -325,10 +322,7 @@ impl<'a, G: Gate, O: Outgoing + Questioned + Recording> Worker<'a, G, O> {
             self.room.has_news();
             return;
         }
-        let block = match voted {
-            Some(block) => Some(block),
-            None => Carried::by(&self.keyring.config(), bytes.as_slice()).block(),
-        };
+        let block = Carried::by(&self.keyring.config(), bytes.as_slice()).block();
         self.has_taken(rt, block.as_ref());
         if let Some(block) = block {
             self.release(rt, steps, share, block);
@@ -365,7 +359,7 @@ impl<'a, G: Gate, O: Outgoing + Questioned + Recording> Worker<'a, G, O> {
             return;
         };
         match self.offer_once(rt, steps, share, &bytes) {
-            Some(Ok(voted)) => self.taken(rt, steps, share, &bytes, voted),
+            Some(Ok(())) => self.taken(rt, steps, share, &bytes),
             Some(Err(Fault::UnknownParent)) => self.take_later(rt, steps, share, number, bytes),
             Some(Err(Fault::BadTag)) if !self.is_past(bytes.as_slice()) => {
                 let frame = Unfounded {
