@@ -315,6 +315,16 @@ impl Inbox {
         Some(parcel)
     }
 
+    /// Loses all that may be taken now, as on any network; but not the end.
+    pub fn lose<R: Wait + Clock>(&self, rt: &R) {
+        for _ in rt.forever() {
+            match self.try_recv(rt) {
+                None | Some(Parcel::Stop) => break,
+                Some(_) => {}
+            }
+        }
+    }
+
     /// Takes a parcel, as soon as one may be taken.
     pub fn recv<R: Wait + Clock>(&self, rt: &R) -> Parcel {
         for _ in rt.forever() {

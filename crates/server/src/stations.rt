@@ -281,7 +281,8 @@ impl<'s, 'a> Watched for Timed<'s, 'a> {
     }
 }
 
-/// Waits until others are as far as they are to be before a station's workers begin, or it is told to stop.
+/// Waits until others are as far as they are to be before a station's workers begin, or it is told to stop. What comes
+/// meanwhile is lost.
 fn wait_for_others<R: Wait + Clock>(rt: &R, station: &Station<'_>, stop: &AtomicBool) {
     let Some(height) = station.late else {
         return;
@@ -290,6 +291,7 @@ fn wait_for_others<R: Wait + Clock>(rt: &R, station: &Station<'_>, stop: &Atomic
         if station.comeback.foremost().0 >= height.0 || stop.load(SeqCst) {
             break;
         }
+        station.inbox.lose(rt);
         thread::sleep(rt, Duration::from_millis(LOOK_MILLIS));
     }
 }

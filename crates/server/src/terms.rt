@@ -61,8 +61,8 @@ pub struct Terms {
     /// How many megabytes each replica's record of frames may take, for others that fell behind. The bytes of a frame lie in
     /// memory once for all replicas.
     pub record: u64,
-    /// The workers of the last replica begin when more than f others have executed up to this height: for trying out how it
-    /// comes to them. None for at once.
+    /// The workers of the last replica begin when more than f others have executed up to this height, and what comes before is
+    /// lost: for trying out how it comes to them. None for at once.
     pub late: Option<Height>,
     /// How many workers each replica has.
     pub workers: Workers,

@@ -1,29 +1,25 @@
-//! A deployment whose last replica begins when its link is full, and the others have forgotten the first blocks: it comes to
-//! them by what they recorded.
+//! A deployment whose last replica begins when the others have forgotten the first blocks: it comes to them by what they
+//! recorded.
 
-use crate::ask;
+use crate::{ask, tell};
 use anyhow::Result;
 use ids::Height;
 use key_file::PairKeys;
 use server::{EndAudit, Terms, Workers, run};
 use std::hash::RandomState;
-use std::io::Write;
 use std::net::{Net, SocketAddr, TcpListener, TcpStream};
 use std::thread;
 use std::thread::join;
 use std::time::Duration;
 
-/// So many sets of the longest data, a block each at least: some 3,400 of them fill the link of who is away.
-const SETS: u32 = 4600;
+/// So many sets, one after the other. Each takes four blocks, since three have to stand on its own.
+const SETS: u32 = 1500;
 
 /// The others have executed so many heights when it begins.
-const LATE: u64 = 4200;
+const LATE: u64 = 3000;
 
 /// Seconds in which it comes to the others, when nothing else is to do.
-const CALM: u64 = 5;
-
-/// The longest data that a key may have.
-const LONGEST: usize = 4096;
+const CALM: u64 = 3;
 
 /// A client that sets one key again and again, waits, and leaves. How many of its sets were stored.
 fn client<R: Net<Stream = TcpStream> + Wait + Clock + AllocGlobal>(
@@ -31,21 +27,15 @@ fn client<R: Net<Stream = TcpStream> + Wait + Clock + AllocGlobal>(
     at: SocketAddr,
 ) -> Result<u32> {
     let alloc = rt.alloc();
-    let mut words = String::new(alloc);
-    write!(words, "set a 0 0 {LONGEST}\r\n")?;
-    for _ in 0..LONGEST {
-        words.push('x')?;
-    }
-    words.push_str("\r\n")?;
     let stream = TcpStream::connect(rt, at)?;
     let mut stored = 0;
     for _ in 0..SETS {
-        if ask(alloc, &stream, words.as_str())?.as_str() == "STORED\r\n" {
+        if ask(alloc, &stream, "set a 0 0 1\r\nx\r\n")?.as_str() == "STORED\r\n" {
             stored += 1;
         }
     }
     thread::sleep(rt, Duration::from_secs(CALM));
-    (&mut &stream).write_all("quit\r\n".as_bytes())?;
+    tell(&stream, "quit\r\n")?;
     Ok(stored)
 }
 
