@@ -5,12 +5,15 @@ use crate::{ask, tell};
 use anyhow::Result;
 use ids::Height;
 use key_file::PairKeys;
+use log::Log;
 use server::{EndAudit, Terms, Workers, run};
 use std::hash::RandomState;
 use std::net::{Net, SocketAddr, TcpListener, TcpStream};
+use std::random::RandomSource;
+use std::sync::Wait;
 use std::thread;
-use std::thread::join;
-use std::time::Duration;
+use std::thread::{Threads, join};
+use std::time::{Clock, Duration};
 
 /// So many sets, one after the other. Each takes four blocks, since three have to stand on its own.
 const SETS: u32 = 1500;
@@ -41,7 +44,11 @@ fn client<R: Net<Stream = TcpStream> + Wait + Clock + AllocGlobal>(
 
 /// Runs it, and tells what its client read, and what is said of its replicas' windows: who isn't among the others at the end
 /// can't be compared with them.
-pub(crate) fn late_replica(rt: &HostRuntime, keys: &PairKeys) -> Result<()> {
+pub(crate) fn late_replica<R>(rt: &R, keys: &PairKeys) -> Result<()>
+where
+    R: Threads + Wait + Clock + Sync + Send + Clone + Drop + AllocGlobal + Print + RandomSource,
+    R: Net<Listener = TcpListener, Stream = TcpStream> + Log,
+{
     println!(rt; "a replica that begins late")?;
     let listener = TcpListener::bind(rt, "127.0.0.1:0")?;
     let at = listener.local_addr()?;
