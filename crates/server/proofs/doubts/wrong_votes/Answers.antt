@@ -1,8 +1,9 @@
 use Rattle.std.proofs.Common.{◌≡◌, ◌||◌, not, ap, subst, sym, ◌∙◌}
 use Rattle.std.specs.List.{AllByRecursion}
+use Rattle.definitions.specs.Checks.{identity_of, vote_verifies}
 use Rattle.definitions.specs.FrameLimits.{IsVote}
 use Rattle.fabric.specs.ReplicaSets.{is_in}
-use Rattle.frames_view.specs.Views.{certificate_of, votes_left}
+use Rattle.frames_view.specs.Views.{certificate_of, vote_of, votes_left}
 use Rattle.server.specs.Doubting.{is_wrong}
 use Rattle.server.proofs.Doubting.{right-one}
 use Rattle.server.proofs.Sets.{nobody-in}
@@ -22,5 +23,6 @@ loop-vote-preserved c = (
   (subst (AllByRecursion (IsVote c.args.keyring.now.sizes)) c.in-Some.ensures.steps c.loop-vote.invariant.0).1,
   (λ voter low. right-one (is_in c.loop-vote.wrong voter) c.args.keyring.now c.args.certificate.now.digest.now voter _
       (votes_left c.next.new.self) (votes_left c.loop-vote.vote-iterator) c.in-Some.ensures.steps
-      (ap not (sym c.vote_is_right.ensures ∙ c.if-not-vote_is_right.false)) ∙ c.loop-vote.invariant.1 voter low),
+      (ap (λ d. not (vote_verifies (identity_of c.args.keyring.now) d (vote_of c.in-Some.vote))) (sym c.digest.ensures.value)
+      ∙ ap not (sym c.vote_is_right.ensures ∙ c.if-not-vote_is_right.false)) ∙ c.loop-vote.invariant.1 voter low),
 )
