@@ -257,7 +257,7 @@ fn tells_of_forgotten(line: &str) -> bool {
             let held: Option<u64> = front
                 .rsplit_once(' ')
                 .and_then(|parts| parts.1.parse().ok());
-            matches!(held, Some(held) if held * 2 <= height)
+            matches!(held, Some(held) if held <= height / 2)
         }
         _ => false,
     }
