@@ -5,7 +5,7 @@ ghost use Rattle.std.specs.Prelude.{⊤};
 use crate::workers::frames;
 use anyhow::{Result, bail};
 use authenticators::ReplicaKeyring;
-use fabric::{Ends, Links, Outgoing, Questioned, WaitingRoom, Worker};
+use fabric::{Ends, Links, Outgoing, Questioned, Recording, WaitingRoom, Worker};
 use frames_view::genesis_digest;
 use ids::{Config, Digest, Fault, Kind, ReplicaId};
 use locked_replica::Share;
@@ -67,6 +67,8 @@ impl Outgoing for Nowhere {
 }
 
 impl Questioned for Nowhere {}
+
+impl Recording for Nowhere {}
 
 /// One frame goes out.
 fn out_of(alloc: Global, to: To, kind: Kind, frame: Vec<u8>) -> Result<Out> {
