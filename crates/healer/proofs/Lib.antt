@@ -15,3 +15,5 @@ pub mod Reached
 pub mod Firsts
 pub mod Agreeing
 pub mod Receipts
+pub mod Asked
+pub mod Served

@@ -1,6 +1,8 @@
 -- What a replica of the run tells is what its world has.
-use Rattle.ids.specs.Sizes.{Sizes, replicas}
-use Rattle.std.proofs.Common.{ℕ, ◌<◌, ◌≡◌, Bool, List, length, sym, ap, subst, ◌∙◌}
+use Rattle.std.specs.Borrow.{Bor}
+use Rattle.std.specs.Prelude.{MatchOption}
+use Rattle.ids.specs.Sizes.{Sizes, replicas, client_party}
+use Rattle.std.proofs.Common.{ℕ, ◌<◌, ◌≡◌, Bool, true, false, List, length, Option, Some, None, sym, ap, subst, ◌∙◌}
 use Rattle.definitions.specs.Bytes.{Bytes}
 use Rattle.definitions.specs.Checks.{Identity, identity_of}
 use Rattle.definitions.specs.Chronicles.{Chronicle, lock, vheight, window}
@@ -11,10 +13,11 @@ use Rattle.definitions.specs.States.{view, leaf, is_known}
 use Rattle.definitions.specs.Worlds.{World, Happening, self_of}
 use Rattle.recovery.specs.Correct.{chronicle_of, lock_of, view_of}
 use Rattle.replica.specs.Steps as steps
-use Rattle.world_schedule.specs.Progress.{Stand, StandsAt, IsReplicaOf}
+use Rattle.client_accept.specs.declared.session.Session.{Session}
+use Rattle.world_schedule.specs.Progress.{Stand, StandsAt, IsReplicaOf, IsSessionOf}
 use Rattle.world_schedule.specs.Seats.{IsIn}
 use Rattle.world_schedule.specs.Settings.{Setting, is_faulty_in}
-use Rattle.healer.specs.Courses.{Course, HasReplica, IsReplicaIn}
+use Rattle.healer.specs.Courses.{Course, HasReplica, IsReplicaIn, HasClient, IsSessionIn}
 
 -- the world is of the run's setting
 pub in-setting : (r : Stand) (hs : List Happening) (w : World) → StandsAt r hs w → IsIn r.setting w
@@ -50,6 +53,20 @@ nobody-told r i f hs w t l = f hs w t (subst (λ (z : Sizes). i < replicas z) (s
 pub faulty-told : (r : Stand) (p : ℕ) (hs : List Happening) (w : World) → StandsAt r hs w
     → is_faulty_in r.setting p ≡ w.is_faulty p
 faulty-told r p hs w t = ap (λ (f : ℕ → Bool). f p) (sym (in-setting r hs w t).faulty_are)
+
+-- so is the session of a client
+pub session-told : (r : Stand) (c : ℕ) (o : Option (Bor Session)) (hs : List Happening) (w : World) → StandsAt r hs w
+    → HasClient c w → w.is_faulty (client_party c) ≡ false
+    → ((gs : List Happening) (v : World) → StandsAt r gs v → c < r.setting.sizes.clients
+    → MatchOption o ⊥ (λ s. IsSessionOf r.setting v c s.now))
+    → MatchOption o (w.is_faulty (client_party c) ≡ true) (λ s. IsSessionIn w c s.now)
+session-told r c o hs w t l ok f =
+    by o (f hs w t (subst (λ (z : Sizes). c < z.clients) (sym (same-sizes-told r hs w t)) l))
+  where
+    by : (o : Option (Bor Session)) → MatchOption o ⊥ (λ s. IsSessionOf r.setting w c s.now)
+        → MatchOption o (w.is_faulty (client_party c) ≡ true) (λ s. IsSessionIn w c s.now)
+    by None h = absurd h
+    by (Some s) h = record { correct = ok; state = h.state }
 
 -- ---- what it tells
 

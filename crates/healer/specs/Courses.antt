@@ -1,6 +1,7 @@
 -- A run that is healed, beside the definitions' run.
-use Rattle.ids.specs.Sizes.{replicas}
-use Rattle.std.specs.Prelude.{ℕ, ◌≡◌, ◌<◌, List, [], ◌∷◌, ◌++◌, Option, Some, None}
+use Rattle.ids.specs.Sizes.{replicas, client_party}
+use Rattle.std.specs.Prelude.{ℕ, ◌≡◌, ◌<◌, List, [], ◌∷◌, ◌++◌, Option, Some, None, false}
+use Rattle.client_accept.specs.Sessions as sessions
 use Rattle.definitions.specs.Checks.{identity_of}
 use Rattle.definitions.specs.Events.{happens}
 use Rattle.definitions.specs.Frames.{Frame}
@@ -68,6 +69,10 @@ ToldWhere c P Q = (hs : List Happening) (w : World) → StandsAt c.stand hs w �
 abbrev pub HasReplica : ℕ → World → Type 0
 HasReplica r w = r < replicas w.sizes
 
+-- the number is that of a client of the world
+abbrev pub HasClient : ℕ → World → Type 0
+HasClient c w = c < w.sizes.clients
+
 -- these are the world's correct replicas
 abbrev pub AreCorrect : List ℕ → World → Type 0
 AreCorrect rs w = rs ≡ correct_replicas w
@@ -76,3 +81,8 @@ AreCorrect rs w = rs ≡ correct_replicas w
 pub record IsReplicaIn (w : World) (i : ℕ) (h : steps.Held) : Type 0 where
   pub self : identity_of h.keys ≡ self_of w i
   pub state : h.replica ≡ w.replica i
+
+-- it is the session of a correct client of the world
+pub record IsSessionIn (w : World) (c : ℕ) (h : sessions.Held) : Type 0 where
+  pub correct : w.is_faulty (client_party c) ≡ false
+  pub state : h.session ≡ w.session c

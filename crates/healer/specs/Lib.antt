@@ -1,3 +1,4 @@
+pub mod Asked
 pub mod Courses
 pub mod Fetching
 pub mod Grounds

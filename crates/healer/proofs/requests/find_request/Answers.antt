@@ -1,0 +1,36 @@
+use Rattle.std.proofs.Common.{arith, sym, ◌∙◌}
+use Rattle.healer.specs.Asked.{is_asked}
+use Rattle.healer.proofs.Asked.{told-at, vain-next, vain-all}
+use Rattle.healer.proofs.Records.{frame-at, as-many}
+use Rattle.healer.proofs.requests.find_request.Goals as goal
+
+pub loop-number-init : goal.loop-number-init
+loop-number-init c = λ hs w t rd k s l at. absurd (omega (arith, l))
+
+pub loop-number-preserved : goal.loop-number-preserved
+loop-number-preserved c = λ hs w t rd.
+    let n = c.loop-number.number in
+    let a = frame-at c.frames-frames.result.now w.sent n c.index-frames-number.result (c.frames-frames.ensures hs w t)
+    (omega (arith, c.loop-number-test.true)) c.index-frames-number.is in
+    vain-next w (is_asked c.args.client c.args.session.now.session) n a.0 a.1
+    (sym (c.is_asked_in.ensures a.0 a.2 (told-at c.config-config.result w n a.0 (c.config-config.ensures hs w t) rd a.1))
+    ∙ c.if-is_asked_in.false) (c.loop-number.invariant hs w t rd)
+
+pub returns-then-is_asked_in : goal.returns-then-is_asked_in
+returns-then-is_asked_in c = λ hs w t rd.
+    let n = c.loop-number.number in
+    let a = frame-at c.frames-frames.result.now w.sent n c.index-frames-number.result (c.frames-frames.ensures hs w t)
+    (omega (arith, c.loop-number-test.true)) c.index-frames-number.is in
+    record {
+      sent = a.0;
+      recorded = a.1;
+      passes = sym (c.is_asked_in.ensures a.0 a.2
+          (told-at c.config-config.result w n a.0 (c.config-config.ensures hs w t) rd a.1))
+          ∙ c.if-is_asked_in.true;
+    }
+
+pub returns : goal.returns
+returns c = λ hs w t rd.
+    let many = as-many c.frames-frames.result.now w.sent (c.frames-frames.ensures hs w t) in
+    vain-all w (is_asked c.args.client c.args.session.now.session) c.loop-number.number
+    (omega (arith, many, c.loop-number-test.false)) (c.loop-number.invariant hs w t rd)
