@@ -138,7 +138,7 @@ pub record HadTurns (s : Setting) (c : Course) (hs : List Happening) (n : ℕ) :
   pub earlier : List Happening
   pub world : World
   pub stands : StandsAt c.stand (hs ++ earlier) world
-  pub each : (client : ℕ) → client < n → IsServed s hs client world
+  pub each : (client : ℕ) → client < n → IsServed s hs earlier client world
 
 pub turns-begin : (s : Setting) (c : Course) (hs : List Happening) (w : World) → StandsAt c.stand hs w → HadTurns s c hs 0
 turns-begin s c hs w t = record {
@@ -164,6 +164,9 @@ turns-next s a b hs n own is low done takes =
             let old = done.each client m in
             record {
               earlier = old.earlier;
+              later = old.later ++ turn.more;
+              parts = sym (append_assoc old.earlier old.later turn.more)
+                  ∙ ap (λ (l : List Happening). l ++ turn.more) old.parts;
               world = old.world;
               ends = old.ends;
               served = λ ok waits met healing may.
@@ -172,9 +175,11 @@ turns-next s a b hs n own is low done takes =
             })
         | inr m ↦ (
             let same : n ≡ client = omega (arith, l, m) in
-            subst (λ (j : ℕ). IsServed s hs j (after w turn.more)) same
+            subst (λ (j : ℕ). IsServed s hs (done.earlier ++ turn.more) j (after w turn.more)) same
             (record {
               earlier = done.earlier;
+              later = turn.more;
+              parts = refl;
               world = w;
               ends = subst (λ (z : Setting). run (start_of z) (hs ++ done.earlier) ≡ Ok w) setting
                   done.stands.comes.ends;
@@ -188,17 +193,20 @@ turns-next s a b hs n own is low done takes =
 
 -- all had their turn
 pub all-served : (s : Setting) (schedule : List Event) (n : ℕ) (first c : Course) (o : Outcome)
-    → first.origin.setting ≡ s → HasRun s schedule first.stand → s.sizes.clients ≤ n
+    → first.origin.setting ≡ s → c.stand.setting ≡ s → HasRun s schedule first.stand → s.sizes.clients ≤ n
     → ((hs : List Happening) (w : World) → StandsAt first.stand hs w → HadTurns first.origin.setting c hs n)
     → Told c (λ w. TellsOf w o) → AreServed s schedule o
-all-served s schedule n first c o is ran all turns tells =
+all-served s schedule n first c o is own ran all turns tells =
     let done = turns ran.happenings ran.world ran.stands in
     record {
       happenings = ran.happenings;
       are_these = ran.are_these;
+      added = done.earlier;
       last = done.world;
+      ends = subst (λ (z : Setting). run (start_of z) (ran.happenings ++ done.earlier) ≡ Ok done.world) own
+          done.stands.comes.ends;
       tells = tells (ran.happenings ++ done.earlier) done.world done.stands;
       each = λ client l.
-          subst (λ (z : Setting). IsServed z ran.happenings client done.world) is
+          subst (λ (z : Setting). IsServed z ran.happenings done.earlier client done.world) is
           (done.each client (omega (arith, l, all)));
     }

@@ -41,9 +41,11 @@ abbrev pub TakesTurn : Course → ℕ → Course → Type 0
 TakesTurn old client new =
     (hs : List Happening) (w : World) → StandsAt old.stand hs w → HadTurn old.origin.setting new client hs w
 
--- When a client's turn came, behind these happenings and the healing of clients before it, it was served.
-pub record IsServed (s : Setting) (hs : List Happening) (client : ℕ) (last : World) : Type 0 where
+-- When a client's turn came, behind these happenings and the first of those that healing added, it was served.
+pub record IsServed (s : Setting) (hs added : List Happening) (client : ℕ) (last : World) : Type 0 where
   pub earlier : List Happening
+  pub later : List Happening
+  pub parts : earlier ++ later ≡ added
   pub world : World
   pub ends : run (start_of s) (hs ++ earlier) ≡ Ok world
   pub served : Serves s (hs ++ earlier) world client last
@@ -52,6 +54,8 @@ pub record IsServed (s : Setting) (hs : List Happening) (client : ℕ) (last : W
 pub record AreServed (s : Setting) (schedule : List Event) (o : Outcome) : Type 0 where
   pub happenings : List Happening
   pub are_these : AreThese s.sizes schedule happenings
+  pub added : List Happening
   pub last : World
+  pub ends : run (start_of s) (happenings ++ added) ≡ Ok last
   pub tells : TellsOf last o
-  pub each : (client : ℕ) → client < s.sizes.clients → IsServed s happenings client last
+  pub each : (client : ℕ) → client < s.sizes.clients → IsServed s happenings added client last

@@ -133,6 +133,7 @@ pub fn heal_all(alloc: Global, world: &World, schedule: &[Event]) -> Result<Heal
         healer.holds();
         healer.heal_client(ClientId(client))?;
     }
+    healer.holds();
     let (events, outcome) = healer.finish()?;
     Ok(Healed { events, outcome })
 }

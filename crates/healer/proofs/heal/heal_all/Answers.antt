@@ -33,7 +33,10 @@ returns-clause-ran c =
 pub returns-clause-served : goal.returns-clause-served
 returns-clause-served c =
     all-served c.args.world.now c.args.schedule.now c.loop-client.client c.in_ok-healer.healer c.loop-client.healer
-    c.in_ok-events.outcome (ap (λ (o : Origin). o.setting) c.in_ok-healer.ensures.origin) c.in_ok-healer.ensures.ran
+    c.in_ok-events.outcome (ap (λ (o : Origin). o.setting) c.in_ok-healer.ensures.origin)
+    (c.holds-2.ensures.own
+    ∙ ap (λ (o : Origin). o.setting) (c.loop-client.invariant.0 ∙ c.in_ok-healer.ensures.origin))
+    c.in_ok-healer.ensures.ran
     (omega (
       arith,
       c.loop-client-test.false,
