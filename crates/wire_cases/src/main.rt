@@ -1,8 +1,9 @@
-//! Cases of what goes over wires. Each line of standard input is a case behind the name of its subject:
+//! Cases of what goes over wires, and of what a process reads when it begins. Each line of standard input is a case behind the name of its subject:
 //!
 //! - `longest`, `put`, `cuts`, `pieces`, `room`: frames on a wire (`streams.rt`).
 //! - `greeting`, `dial`, `admit`, `hear`, and these with a changed byte: handshakes (`handshakes.rt`).
 //! - `outbox`: calls of an outbox (`outboxes.rt`).
+//! - `keys`, `deployment`, `mark`, `begin`: key files of holders, deployment files, marks (`state.rt`).
 //!
 //! A line is printed of each. What is wanted was computed by an independent program, `reference/wire_cases`.
 #![tactic(auto)]
@@ -11,6 +12,7 @@ mod endpoints;
 mod fields;
 mod handshakes;
 mod outboxes;
+mod state;
 mod streams;
 
 use anyhow::{Result, bail};
@@ -24,6 +26,7 @@ fn case_told(alloc: Global, line: &str) -> Result<String> {
     match subject {
         "longest" | "put" | "cuts" | "pieces" | "room" => streams::case_told(alloc, subject, case),
         "outbox" => outboxes::case_told(alloc, case),
+        "keys" | "deployment" | "mark" | "begin" => state::case_told(alloc, subject, case),
         _ => handshakes::case_told(alloc, subject, case),
     }
 }
