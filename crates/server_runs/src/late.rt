@@ -31,10 +31,10 @@ fn client<R: Net<Stream = TcpStream> + Wait + Clock + AllocGlobal>(
 ) -> Result<u32> {
     let alloc = rt.alloc();
     let stream = TcpStream::connect(rt, at)?;
-    let mut stored = 0;
+    let mut stored = 0u32;
     for _ in 0..SETS {
         if ask(alloc, &stream, "set a 0 0 1\r\nx\r\n")?.as_str() == "STORED\r\n" {
-            stored += 1;
+            stored = stored.saturating_add(1);
         }
     }
     thread::sleep(rt, Duration::from_secs(CALM));

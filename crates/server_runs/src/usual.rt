@@ -123,11 +123,11 @@ fn ask_for_much(alloc: Global, stream: &TcpStream, value: &str) -> Result<usize>
     let wanted = format!(in alloc; "STORED\r\n")?;
     let stored = is_told(alloc, stream, wanted.as_str())?;
     let wanted = format!(in alloc; "VALUE long 0 {LONG}\r\n{value}\r\nEND\r\n")?;
-    let mut count = 0;
+    let mut count = 0usize;
     for _ in 0..TIMES {
         tell(stream, "get long\r\n")?;
         if stored && is_told(alloc, stream, wanted.as_str())? {
-            count += 1;
+            count = count.saturating_add(1);
         }
     }
     Ok(count)
