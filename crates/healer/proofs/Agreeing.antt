@@ -1,7 +1,7 @@
 -- A leader brings a request to be executed, and its client hears of it.
 use Rattle.ids.specs.declared.fault.Fault.{Fault}
 use Rattle.ids.specs.declared.fault.Fault.TheVariants as fault
-use Rattle.std.proofs.Common.{ℕ, zero, suc, ◌≡◌, ◌==◌, List, [], ◌∷◌, ◌++◌, map, length, find, reverse}
+use Rattle.std.proofs.Common.{ℕ, zero, suc, ◌≡◌, ◌==◌, List, [], ◌∷◌, map, length, find, reverse}
 use Rattle.std.proofs.Common.{sym, ap, subst, ◌∙◌, refl, None, Result, OnOk}
 use Rattle.std.proofs.lemmas.Bool.{cond_both, eqb-true}
 use Rattle.definitions.specs.Branches.{Branch, branch_eq, just2, highest}
@@ -19,15 +19,14 @@ use Rattle.recovery.specs.Correct.{amply, chronicle_of, lock_of, correct_replica
 use Rattle.recovery.specs.Healing.{Phase, in_turn, highest_locked, over_lock, justified_by, lowest_first, timeouts}
 use Rattle.recovery.specs.Healing.{waits_until, come_to, view_to_come, make_first, fetch_all, lead_with, rounds, to_climb}
 use Rattle.recovery.specs.Healing.{agree_on, ask_again, heal}
-use Rattle.world_schedule.specs.Progress.{Stand, StandsAt}
 use Rattle.healer.specs.Courses.{Course, Goes, GoesWhere, Told, ToldWhere, HasReplica, AreCorrect}
 use Rattle.healer.specs.Fetching.{fetch_by}
 use Rattle.healer.specs.Grounds.{IsGround}
 use Rattle.healer.proofs.Asking.{fetches-branch}
 use Rattle.healer.proofs.Locks.{leader-is-replica}
 use Rattle.healer.proofs.Members.{still-correct, still-replica}
-use Rattle.healer.proofs.Phases.{after-append, joined}
-use Rattle.healer.proofs.Turns.{turns-one, turn-first, turn-last, on-ok-too}
+use Rattle.healer.proofs.Phases.{after-append}
+use Rattle.healer.proofs.Turns.{where-told, where-too, turn-first, turn-last, on-ok-too}
 
 -- ---- timeouts take no block
 
@@ -101,75 +100,93 @@ over-kept v l w =
 
 -- ---- the phases of an agreement
 
--- these happenings, in other words
-moved : (r : Stand) (hs : List Happening) (w : World) (xs ys : List Happening) → xs ≡ ys
-    → StandsAt r (hs ++ xs) (after w xs) → StandsAt r (hs ++ ys) (after w ys)
-moved r hs w xs ys e t = subst (λ (zs : List Happening). StandsAt r (hs ++ zs) (after w zs)) e t
-
--- the first of several phases
-turned : (r : Stand) (hs : List Happening) (w : World) (p : Phase) (ps : List Phase)
-    → StandsAt r ((hs ++ p w) ++ in_turn ps (after w (p w))) (after (after w (p w)) (in_turn ps (after w (p w))))
-    → StandsAt r (hs ++ in_turn (p ∷ ps) w) (after w (in_turn (p ∷ ps) w))
-unfolding in_turn
-turned r hs w p ps t = joined r hs (p w) (in_turn ps (after w (p w))) w t
-
 -- what is known of a world in which these correct replicas agree under this leader
 abbrev pub MayAgree : List ℕ → ℕ → Bytes → ℕ → List Bytes → World → Type 0
 MayAgree rs l lock height digests w =
     AreCorrect rs w × (l ≡ highest_locked w rs) × IsGround l lock height digests w
 
-pub agrees : (k l view height count : ℕ) (lock : Bytes) (rs : List ℕ) (digests below : List Bytes)
-    (a b c d e f : Course) (r : Result (Unit {0}) Fault) → digests ≡ below → ToldWhere a (AreCorrect rs) (λ w. view ≡ view_to_come l w) → GoesWhere a (AreCorrect rs) (come_to view) b
-    → GoesWhere b (λ w. AreCorrect rs w × (height ≡ length (over_lock l w))) (make_first l) c
-    → GoesWhere c (AreCorrect rs) (in_turn (map fetch_by digests)) d → Goes d (lead_with k l lock) e
-    → ToldWhere e (λ w. AreCorrect rs w × HasReplica l w) (λ w. count ≡ to_climb l w)
-    → OnOk r (GoesWhere e (AreCorrect rs) (rounds count l) f)
-    → OnOk r (GoesWhere a (MayAgree rs l lock height below) (agree_on k) f)
-unfolding agree_on
-agrees k l view height count lock rs digests below a b c d e f r same sees come first fetch lead climbs last =
-    on-ok-too _ _ r (λ decide hs w t x.
-    let own : AreCorrect rs w = x.0 in
-    let is : l ≡ highest_locked w (correct_replicas w) =
-    x.1 ∙ ap (λ (ps : List ℕ). highest_locked w ps) own in
-    let p1 : Phase = come_to (view_to_come l w) in
-    let p3 : Phase = fetch_all (lowest_first (over_lock l w)) in
-    let p4 : Phase = lead_with k l (digest_of (lock_of w l)) in
-    let p5 : Phase = λ v. rounds (to_climb l v) l v in
-    let w1 : World = after w (p1 w) in
-    let w2 : World = after w1 (make_first l w1) in
-    let w3 : World = after w2 (p3 w2) in
-    let w4 : World = after w3 (p4 w3) in
-    let own1 = still-correct rs w (p1 w) own in
-    let own2 = still-correct rs w1 (make_first l w1) own1 in
-    let own3 = still-correct rs w2 (p3 w2) own2 in
-    let own4 = still-correct rs w3 (p4 w3) own3 in
-    let there = leader-is-replica rs l w own x.1 in
-    let there4 : HasReplica l w4 =
-    still-replica l w3 (p4 w3) (still-replica l w2 (p3 w2) (still-replica l w1 (make_first l w1)
-    (still-replica l w (p1 w) there))) in
-    let t1 = moved b.stand hs w (come_to view w) (p1 w) (ap (λ (n : ℕ). come_to n w) (sees hs w t own)) (come hs w t own) in
-    let t2 = first (hs ++ p1 w) w1 t1 (own1, x.2.high ∙ ap (λ (y : Branch). length y) (sym (over-kept (view_to_come l w) l w))) in
-    let t3 =
-    moved d.stand ((hs ++ p1 w) ++ make_first l w1) w2 (in_turn (map fetch_by digests) w2) (p3 w2)
-    (ap (λ (ds : List Bytes). in_turn (map fetch_by ds) w2) (same ∙ x.2.below) ∙ fetches-branch (lowest_first (over_lock l w)) w2)
-    (fetch ((hs ++ p1 w) ++ make_first l w1) w2 t2 own2) in
-    let h3 : List Happening = ((hs ++ p1 w) ++ make_first l w1) ++ p3 w2 in
-    let t4 = moved e.stand h3 w3 (lead_with k l lock w3) (p4 w3) (ap (λ (y : Bytes). lead_with k l y w3) x.2.locked)
-    (lead h3 w3 t3) in
-    let t5 = moved f.stand (h3 ++ p4 w3) w4 (rounds count l w4) (p5 w4)
-    (ap (λ (n : ℕ). rounds n l w4) (climbs (h3 ++ p4 w3) w4 t4 (own4, there4))) (decide (h3 ++ p4 w3) w4 t4 own4) in
-    subst (λ (m : ℕ). StandsAt f.stand (hs ++ phases w m) (after w (phases w m))) is
-    (turned f.stand hs w p1 (make_first l ∷ p3 ∷ p4 ∷ p5 ∷ [])
-    (turned f.stand (hs ++ p1 w) w1 (make_first l) (p3 ∷ p4 ∷ p5 ∷ [])
-    (turned f.stand ((hs ++ p1 w) ++ make_first l w1) w2 p3 (p4 ∷ p5 ∷ [])
-    (turned f.stand h3 w3 p4 (p5 ∷ []) (moved f.stand (h3 ++ p4 w3) w4 (p5 w4) (in_turn (p5 ∷ []) w4)
-    (sym (turns-one p5 w4)) t5)))))) last
+-- what is known behind that: the leader is one of them
+abbrev AreLed : List ℕ → ℕ → World → Type 0
+AreLed rs l w = AreCorrect rs w × HasReplica l w
+
+still-led : (rs : List ℕ) (l : ℕ) (w : World) (hs : List Happening) → AreLed rs l w → AreLed rs l (after w hs)
+still-led rs l w hs x = (still-correct rs w hs x.0, still-replica l w hs x.1)
+
+-- the phases, by what the code computed
+phases : (k l view : ℕ) → Bytes → List Bytes → List Phase
+phases k l view lock digests =
+    come_to view
+    ∷ make_first l
+    ∷ in_turn (map fetch_by digests)
+    ∷ lead_with k l lock
+    ∷ (λ v. rounds (to_climb l v) l v) ∷ []
+
+-- they are an agreement's
+agreement-is : (k l view height : ℕ) (lock : Bytes) (rs : List ℕ) (digests : List Bytes) (w : World)
+    → view ≡ view_to_come l w → MayAgree rs l lock height digests w
+    → in_turn (phases k l view lock digests) w ≡ agree_on k w
+unfolding phases agree_on
+agreement-is k l view height lock rs digests w sees x =
+    (λ i. in_turn (come_to (sees i) ∷ make_first l ∷ fetched i ∷ lead_with k l (x.2.locked i)
+    ∷ (λ v. rounds (to_climb l v) l v) ∷ []) w)
+    ∙ ap under (x.1 ∙ ap (λ (ps : List ℕ). highest_locked w ps) x.0)
   where
+    fetched : in_turn (map fetch_by digests) ≡ fetch_all (lowest_first (over_lock l w))
+    fetched = λ i. λ v.
+        (ap (λ (ds : List Bytes). in_turn (map fetch_by ds) v) x.2.below ∙ fetches-branch (lowest_first (over_lock l w)) v) i
+
     -- with this leader
-    phases : World → ℕ → List Happening
-    phases w m =
+    under : ℕ → List Happening
+    under m =
         in_turn (come_to (view_to_come m w) ∷ make_first m ∷ fetch_all (lowest_first (over_lock m w))
         ∷ lead_with k m (digest_of (lock_of w m)) ∷ (λ v. rounds (to_climb m v) m v) ∷ []) w
+
+-- it leads, and its blocks decide
+leads-on : (k l count : ℕ) (lock : Bytes) (rs : List ℕ) (d e f : Course) → Goes d (lead_with k l lock) e
+    → ToldWhere e (AreLed rs l) (λ w. count ≡ to_climb l w) → GoesWhere e (AreCorrect rs) (rounds count l) f
+    → GoesWhere d (AreLed rs l) (in_turn (lead_with k l lock ∷ (λ v. rounds (to_climb l v) l v) ∷ [])) f
+leads-on k l count lock rs d e f lead climbs decide =
+    let last : Phase = λ v. rounds (to_climb l v) l v in
+    turn-first d e f (AreLed rs l) (AreLed rs l) (lead_with k l lock) (last ∷ [])
+    (where-too d e (AreLed rs l) (lead_with k l lock) lead)
+    (turn-last e f (AreLed rs l) last (where-told e f (AreLed rs l) (rounds count l) last
+    (λ hs w t x. ap (λ (n : ℕ). rounds n l w) (climbs hs w t x)) (λ hs w t x. decide hs w t x.0)))
+    (λ w x. still-led rs l w (lead_with k l lock w) x)
+
+pub agrees : (k l view height count : ℕ) (lock : Bytes) (rs : List ℕ) (digests below : List Bytes)
+    (a b c d e f : Course) (r : Result (Unit {0}) Fault) → digests ≡ below
+    → ToldWhere a (AreCorrect rs) (λ w. view ≡ view_to_come l w) → GoesWhere a (AreCorrect rs) (come_to view) b
+    → GoesWhere b (λ w. AreCorrect rs w × (height ≡ length (over_lock l w))) (make_first l) c
+    → GoesWhere c (AreCorrect rs) (in_turn (map fetch_by digests)) d → Goes d (lead_with k l lock) e
+    → ToldWhere e (AreLed rs l) (λ w. count ≡ to_climb l w) → OnOk r (GoesWhere e (AreCorrect rs) (rounds count l) f)
+    → OnOk r (GoesWhere a (MayAgree rs l lock height below) (agree_on k) f)
+unfolding phases
+agrees k l view height count lock rs digests below a b c d e f r same sees come first fetch lead climbs last =
+    on-ok-too _ _ r (λ decide.
+    where-told a f P (in_turn (phases k l view lock digests)) (agree_on k)
+    (λ hs w t x. agreement-is k l view height lock rs digests w (sees hs w t x.0)
+    (subst (λ (ds : List Bytes). MayAgree rs l lock height ds w) (sym same) x))
+    (turn-first a b f P Q (come_to view) (make_first l ∷ fetching ∷ deciding) (λ hs w t x. come hs w t x.0)
+    (turn-first b c f Q (AreLed rs l) (make_first l) (fetching ∷ deciding) (λ hs w t x. first hs w t (x.0.0, x.1))
+    (turn-first c d f (AreLed rs l) (AreLed rs l) fetching deciding (λ hs w t x. fetch hs w t x.0)
+    (leads-on k l count lock rs d e f lead climbs decide)
+    (λ w x. still-led rs l w (fetching w) x)) (λ w x. still-led rs l w (make_first l w) x.0))
+    (λ w x. (
+      still-led rs l w (come_to view w) (x.0, leader-is-replica rs l w x.0 x.1),
+      x.2.high ∙ ap (λ (y : Branch). length y) (sym (over-kept view l w)),
+    )))) last
+  where
+    P : World → Type 0
+    P = MayAgree rs l lock height below
+
+    Q : World → Type 0
+    Q w = AreLed rs l w × (height ≡ length (over_lock l w))
+
+    fetching : Phase
+    fetching = in_turn (map fetch_by digests)
+
+    deciding : List Phase
+    deciding = lead_with k l lock ∷ (λ v. rounds (to_climb l v) l v) ∷ []
 
 -- the leader and its ground are what they have to be
 pub agrees-on : (k l height : ℕ) (lock : Bytes) (rs : List ℕ) (digests : List Bytes) (a b : Course)

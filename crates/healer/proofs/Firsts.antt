@@ -5,7 +5,6 @@ use Rattle.std.specs.Prelude.{slice_index_or, max}
 use Rattle.std.proofs.Common.{ℕ, ◌+◌, ◌-◌, ◌<◌, ◌≤◌, ◌≡◌, ◌==◌, List, [], ◌∷◌, ◌++◌, length, take}
 use Rattle.std.proofs.Common.{sym, ap, ◌∙◌, refl, arith, eq-eqb, Result, OnOk}
 use Rattle.std.proofs.lemmas.Bool.{cond-true, cond-false, ne_eqb}
-use Rattle.std.proofs.lemmas.List.{take_more, take_all}
 use Rattle.definitions.specs.Bytes.{Bytes}
 use Rattle.definitions.specs.Chronicles.{vheight}
 use Rattle.definitions.specs.Digests.{digest, digest_of}
@@ -19,6 +18,7 @@ use Rattle.recovery.specs.Healing.{highest_voted, to_climb}
 use Rattle.world_schedule.specs.declared.event.Event.TheVariants.{Lead, Beat}
 use Rattle.healer.specs.Courses.{Course, Takes, Goes, GoesWhere, Told, ToldWhere, AreCorrect}
 use Rattle.healer.specs.Records.{is_of}
+use Rattle.healer.proofs.Highest.{highest-next, highest-all}
 use Rattle.healer.proofs.Making.{since}
 use Rattle.healer.proofs.Members.{still-correct}
 use Rattle.healer.proofs.Phases.{goes-one, goes-event}
@@ -88,31 +88,23 @@ first-passed l over rs a z =
 
 -- ---- the greatest height that was voted for
 
-voted-more : (w : World) (xs : List ℕ) (r : ℕ)
-    → highest_voted w (xs ++ r ∷ []) ≡ max (highest_voted w xs) (vheight (chronicle_of w r))
-unfolding highest_voted
-voted-more w [] r = omega arith
-voted-more w (x ∷ xs) r =
-    ap (λ (n : ℕ). max (vheight (chronicle_of w x)) n) (voted-more w xs r)
-    ∙ (let e : (a b c : ℕ) → max a (max b c) ≡ max (max a b) c = λ a b c. omega arith in
-    e (vheight (chronicle_of w x)) (highest_voted w xs) (vheight (chronicle_of w r)))
-
-pub voted-none : (w : World) → 0 ≡ highest_voted w []
+pub voted-none : (w : World) → highest_voted w [] ≡ 0
 unfolding highest_voted
 voted-none w = refl
+
+voted-first : (w : World) (r : ℕ) (rs : List ℕ)
+    → highest_voted w (r ∷ rs) ≡ max (vheight (chronicle_of w r)) (highest_voted w rs)
+unfolding highest_voted
+voted-first w r rs = refl
 
 pub voted-next : (w : World) (rs : List ℕ) (i d r high voted : ℕ) → i < length rs → r ≡ slice_index_or rs i d
     → high ≡ highest_voted w (take i rs) → voted ≡ vheight (chronicle_of w r)
     → max high voted ≡ highest_voted w (take (i + 1) rs)
-voted-next w rs i d r high voted l at h v =
-    ap (λ (n : ℕ). max n voted) h
-    ∙ (ap (λ (n : ℕ). max (highest_voted w (take i rs)) n) v
-    ∙ sym (ap (λ (xs : List ℕ). highest_voted w xs) (take_more rs i d l ∙ ap (λ (x : ℕ). take i rs ++ x ∷ []) (sym at))
-    ∙ voted-more w (take i rs) r))
+voted-next w = highest-next (λ r. vheight (chronicle_of w r)) (highest_voted w) (voted-none w) (voted-first w)
 
 pub voted-all : (w : World) (rs : List ℕ) (i high : ℕ) → length rs ≤ i → high ≡ highest_voted w (take i rs)
     → high ≡ highest_voted w rs
-voted-all w rs i high l h = h ∙ ap (λ (xs : List ℕ). highest_voted w xs) (take_all i rs l)
+voted-all w = highest-all (λ r. vheight (chronicle_of w r)) (highest_voted w) (voted-none w) (voted-first w)
 
 pub climb-is : (w : World) (rs : List ℕ) (l voted high count : ℕ) → AreCorrect rs w → voted ≡ highest_voted w rs
     → high ≡ length (leaf (self_of w l) (chronicle_of w l)) → count ≡ (voted - high) + 1 → count ≡ to_climb l w

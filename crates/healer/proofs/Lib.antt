@@ -4,6 +4,7 @@ pub mod Phases
 pub mod Turns
 pub mod Members
 pub mod Tellings
+pub mod Highest
 pub mod Waits
 pub mod Records
 pub mod Making
@@ -15,3 +16,7 @@ pub mod Reached
 pub mod Firsts
 pub mod Agreeing
 pub mod Receipts
+pub mod Parts
+pub mod Asked
+pub mod Awaited
+pub mod Served

@@ -28,6 +28,9 @@ made-after w (h ∷ hs) = let r = made-after (happens w h) hs in record { sizes 
 pub same-sizes : (w : World) (hs : List Happening) → (after w hs).sizes ≡ w.sizes
 same-sizes w hs = (made-after w hs).sizes
 
+pub same-faulty : (w : World) (hs : List Happening) → (after w hs).is_faulty ≡ w.is_faulty
+same-faulty w hs = (made-after w hs).faulty
+
 same-below : (v w : World) → IsMadeAs w v → (n : ℕ) → correct_below v n ≡ correct_below w n
 unfolding correct_below
 same-below v w m zero = refl

@@ -1,13 +1,11 @@
 -- Nobody is wedged where a run is healed.
 use Rattle.ids.specs.declared.fault.Fault.{Fault}
-use Rattle.std.proofs.Common.{ℕ, ◌≡◌, List, [], ◌∷◌, ◌++◌, map, reverse, sym, ap, subst, ◌∙◌, Some, Result, Ok, OnOk}
+use Rattle.std.proofs.Common.{ℕ, ◌≡◌, List, ◌++◌, map, reverse, sym, ap, subst, ◌∙◌, Some, Result, Ok, OnOk}
 use Rattle.std.proofs.lemmas.List.{reverse-reverse}
 use Rattle.ids.specs.Sizes.{Sizes, AreSizes}
-use Rattle.definitions.specs.Events.{happens}
-use Rattle.definitions.specs.Runs.{refusal, run, after}
+use Rattle.definitions.specs.Runs.{run, after}
 use Rattle.definitions.specs.Lists.{Among}
 use Rattle.definitions.specs.Worlds.{World, Happening, AcceptedBy}
-use Rattle.linear_law.proofs.Linear.{run-step}
 use Rattle.recovery.specs.Healing.{heal}
 use Rattle.recovery.specs.NeverWedged.{IsAnswered, NeverWedged}
 use Rattle.world_schedule.specs.declared.running.State.{State}
@@ -16,15 +14,9 @@ use Rattle.world_schedule.specs.Progress.{Stand, StandsAt}
 use Rattle.world_schedule.specs.Settings.{Setting, Holds, is_faulty_in, ring_in, start_of}
 use Rattle.healer.specs.Courses.{Course, Goes}
 use Rattle.healer.specs.Receipts.{Answers}
+use Rattle.healer.proofs.Parts.{run-after}
 use Rattle.healer.proofs.Tellings.{same-sizes-told}
 use Rattle.healer.proofs.Turns.{on-ok-too}
-
--- a run ends in the world after it
-run-after : (hs : List Happening) (w last : World) → run w hs ≡ Ok last → after w hs ≡ last
-unfolding run after
-run-after [] w last e = let k : w ≡ last = cc in k
-run-after (h ∷ hs) w last e =
-    let r = run-step (refusal w h.0) (run (happens w h) hs) last e in run-after hs (happens w h) last r.1
 
 -- receipts are told, so they are those of each world in which the run may stand
 same-receipts : (r : Stand) (gs hs : List Happening) (v w : World) → StandsAt r gs v → StandsAt r hs w

@@ -29,70 +29,32 @@ use Rattle.healer.proofs.Turns.{where-told, where-as, where-too, where-both, whe
 
 -- ---- kinds
 
-proposal-at : (f : Frame) → is_of kind.Proposal f ≡ is_proposal f
-unfolding is_proposal
-proposal-at (frame.proposal v core q t) = refl
-proposal-at (frame.vote d b) = refl
-proposal-at (frame.new_view v r q t) = refl
-proposal-at (frame.request c) = refl
-proposal-at (frame.block r core q t) = refl
-proposal-at (frame.fetch r d t) = refl
-proposal-at (frame.reply r c q x t g) = refl
-
-vote-at : (f : Frame) → is_of kind.Vote f ≡ is_vote f
-unfolding is_vote
-vote-at (frame.proposal v core q t) = refl
-vote-at (frame.vote d b) = refl
-vote-at (frame.new_view v r q t) = refl
-vote-at (frame.request c) = refl
-vote-at (frame.block r core q t) = refl
-vote-at (frame.fetch r d t) = refl
-vote-at (frame.reply r c q x t g) = refl
-
-question-at : (f : Frame) → is_of kind.Fetch f ≡ is_question f
-unfolding is_question
-question-at (frame.proposal v core q t) = refl
-question-at (frame.vote d b) = refl
-question-at (frame.new_view v r q t) = refl
-question-at (frame.request c) = refl
-question-at (frame.block r core q t) = refl
-question-at (frame.fetch r d t) = refl
-question-at (frame.reply r c q x t g) = refl
-
-copy-at : (f : Frame) → is_of kind.Block f ≡ is_copy f
-unfolding is_copy
-copy-at (frame.proposal v core q t) = refl
-copy-at (frame.vote d b) = refl
-copy-at (frame.new_view v r q t) = refl
-copy-at (frame.request c) = refl
-copy-at (frame.block r core q t) = refl
-copy-at (frame.fetch r d t) = refl
-copy-at (frame.reply r c q x t g) = refl
-
-reply-at : (f : Frame) → is_of kind.Reply f ≡ is_reply f
-unfolding is_reply
-reply-at (frame.proposal v core q t) = refl
-reply-at (frame.vote d b) = refl
-reply-at (frame.new_view v r q t) = refl
-reply-at (frame.request c) = refl
-reply-at (frame.block r core q t) = refl
-reply-at (frame.fetch r d t) = refl
-reply-at (frame.reply r c q x t g) = refl
+kinds-at : (f : Frame)
+    → (is_of kind.Proposal f ≡ is_proposal f) × (is_of kind.Vote f ≡ is_vote f) × (is_of kind.Fetch f ≡ is_question f)
+    × (is_of kind.Block f ≡ is_copy f) × (is_of kind.Reply f ≡ is_reply f)
+unfolding is_proposal is_vote is_question is_copy is_reply
+kinds-at (frame.proposal v core q t) = (refl, refl, refl, refl, refl)
+kinds-at (frame.vote d b) = (refl, refl, refl, refl, refl)
+kinds-at (frame.new_view v r q t) = (refl, refl, refl, refl, refl)
+kinds-at (frame.request c) = (refl, refl, refl, refl, refl)
+kinds-at (frame.block r core q t) = (refl, refl, refl, refl, refl)
+kinds-at (frame.fetch r d t) = (refl, refl, refl, refl, refl)
+kinds-at (frame.reply r c q x t g) = (refl, refl, refl, refl, refl)
 
 pub proposals : is_of kind.Proposal ≡ is_proposal
-proposals = λ i. λ f. proposal-at f i
+proposals = λ i. λ f. (kinds-at f).0 i
 
 pub votes : is_of kind.Vote ≡ is_vote
-votes = λ i. λ f. vote-at f i
+votes = λ i. λ f. (kinds-at f).1 i
 
 pub questions : is_of kind.Fetch ≡ is_question
-questions = λ i. λ f. question-at f i
+questions = λ i. λ f. (kinds-at f).2 i
 
 pub copies : is_of kind.Block ≡ is_copy
-copies = λ i. λ f. copy-at f i
+copies = λ i. λ f. (kinds-at f).3 i
 
 pub replies : is_of kind.Reply ≡ is_reply
-replies = λ i. λ f. reply-at f i
+replies = λ i. λ f. (kinds-at f).4 i
 
 -- ---- a frame as it is told
 

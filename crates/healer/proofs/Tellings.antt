@@ -1,6 +1,10 @@
 -- What a replica of the run tells is what its world has.
-use Rattle.ids.specs.Sizes.{Sizes, replicas}
-use Rattle.std.proofs.Common.{ℕ, ◌<◌, ◌≡◌, Bool, List, length, sym, ap, subst, ◌∙◌}
+use Rattle.ids.specs.Sizes.{Sizes, replicas, client_party}
+use Rattle.std.specs.Borrow.{Bor}
+use Rattle.std.specs.Prelude.{MatchOption, option_map}
+use Rattle.std.proofs.Common.{ℕ, ◌<◌, ◌≡◌, Bool, true, false, List, length, Option, Some, None, sym, ap, subst, ◌∙◌}
+use Rattle.std.proofs.lemmas.Bool.{cond-true, cond-false}
+use Rattle.client_accept.specs.declared.session.Session.{Session}
 use Rattle.definitions.specs.Bytes.{Bytes}
 use Rattle.definitions.specs.Checks.{Identity, identity_of}
 use Rattle.definitions.specs.Chronicles.{Chronicle, lock, vheight, window}
@@ -11,10 +15,11 @@ use Rattle.definitions.specs.States.{view, leaf, is_known}
 use Rattle.definitions.specs.Worlds.{World, Happening, self_of}
 use Rattle.recovery.specs.Correct.{chronicle_of, lock_of, view_of}
 use Rattle.replica.specs.Steps as steps
-use Rattle.world_schedule.specs.Progress.{Stand, StandsAt, IsReplicaOf}
+use Rattle.world_schedule.specs.Progress.{Stand, StandsAt, IsReplicaOf, IsSessionOf}
 use Rattle.world_schedule.specs.Seats.{IsIn}
 use Rattle.world_schedule.specs.Settings.{Setting, is_faulty_in}
-use Rattle.healer.specs.Courses.{Course, HasReplica, IsReplicaIn}
+use Rattle.healer.specs.Asked.{session_of}
+use Rattle.healer.specs.Courses.{Course, HasReplica, HasClient, IsReplicaIn}
 
 -- the world is of the run's setting
 pub in-setting : (r : Stand) (hs : List Happening) (w : World) → StandsAt r hs w → IsIn r.setting w
@@ -50,6 +55,24 @@ nobody-told r i f hs w t l = f hs w t (subst (λ (z : Sizes). i < replicas z) (s
 pub faulty-told : (r : Stand) (p : ℕ) (hs : List Happening) (w : World) → StandsAt r hs w
     → is_faulty_in r.setting p ≡ w.is_faulty p
 faulty-told r p hs w t = ap (λ (f : ℕ → Bool). f p) (sym (in-setting r hs w t).faulty_are)
+
+-- so is the session of a client
+pub session-told : (r : Stand) (c : ℕ) (o : Option (Bor Session)) (hs : List Happening) (w : World) → StandsAt r hs w
+    → HasClient c w → w.is_faulty (client_party c) ≡ false
+    → ((gs : List Happening) (v : World) → StandsAt r gs v → c < r.setting.sizes.clients
+    → MatchOption o ⊥ (λ s. IsSessionOf r.setting v c s.now))
+    → option_map (λ s. s.now.session) o ≡ session_of c w
+session-told r c o hs w t l ok f =
+    by o (f hs w t (subst (λ (z : Sizes). c < z.clients) (sym (same-sizes-told r hs w t)) l))
+    ∙ sym (cond-false (w.is_faulty (client_party c)) None (Some (w.session c)) ok)
+  where
+    by : (o : Option (Bor Session)) → MatchOption o ⊥ (λ s. IsSessionOf r.setting w c s.now)
+        → option_map (λ s. s.now.session) o ≡ Some (w.session c)
+    by None h = absurd h
+    by (Some s) h = ap Some h.state
+
+pub no-session-told : (w : World) (c : ℕ) → w.is_faulty (client_party c) ≡ true → None ≡ session_of c w
+no-session-told w c e = sym (cond-true (w.is_faulty (client_party c)) None (Some (w.session c)) e)
 
 -- ---- what it tells
 

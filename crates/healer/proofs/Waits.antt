@@ -3,42 +3,35 @@ use Rattle.ids.specs.Sizes.{Sizes, replicas}
 use Rattle.std.specs.Prelude.{slice_index_or, max}
 use Rattle.std.proofs.Common.{ℕ, zero, suc, ◌+◌, ◌-◌, ◌<◌, ◌≤◌, ◌≡◌, List, [], ◌∷◌, ◌++◌, map, length, take, sym, ap}
 use Rattle.std.proofs.Common.{◌∙◌, refl, arith}
-use Rattle.std.proofs.lemmas.List.{map-append, take_more, take_all}
+use Rattle.std.proofs.lemmas.List.{map-append}
 use Rattle.definitions.specs.Replicas.{MemorySupply.ample}
 use Rattle.definitions.specs.Worlds.{World, Event, Event.timeout}
 use Rattle.recovery.specs.Correct.{amply, view_of, correct_replicas}
 use Rattle.recovery.specs.Healing.{highest_view, next_led, view_to_come, timeouts, waits_until, come_to, in_turn}
 use Rattle.world_schedule.specs.declared.event.Event.TheVariants.{Timeout}
 use Rattle.healer.specs.Courses.{Course, Takes, Goes, GoesWhere, ToldWhere, HasReplica, AreCorrect}
+use Rattle.healer.proofs.Highest.{highest-next, highest-all}
 use Rattle.healer.proofs.Members.{still-correct, item-is-replica}
 use Rattle.healer.proofs.Phases.{goes-none, goes-as, goes-event}
 use Rattle.healer.proofs.Turns.{where-as, where-told, each-first, each-next, each-all}
 
 -- ---- the highest view
 
-highest-more : (w : World) (xs : List ℕ) (r : ℕ) → highest_view w (xs ++ r ∷ []) ≡ max (highest_view w xs) (view_of w r)
+pub view-none : (w : World) → highest_view w [] ≡ 0
 unfolding highest_view
-highest-more w [] r = omega arith
-highest-more w (x ∷ xs) r =
-    ap (λ (n : ℕ). max (view_of w x) n) (highest-more w xs r)
-    ∙ (let e : (a b c : ℕ) → max a (max b c) ≡ max (max a b) c = λ a b c. omega arith in
-    e (view_of w x) (highest_view w xs) (view_of w r))
+view-none w = refl
 
-pub highest-none : (w : World) → highest_view w [] ≡ 0
+view-first : (w : World) (r : ℕ) (rs : List ℕ) → highest_view w (r ∷ rs) ≡ max (view_of w r) (highest_view w rs)
 unfolding highest_view
-highest-none w = refl
+view-first w r rs = refl
 
-pub highest-next : (w : World) (rs : List ℕ) (i d r high view : ℕ) → i < length rs → r ≡ slice_index_or rs i d
+pub view-next : (w : World) (rs : List ℕ) (i d r high view : ℕ) → i < length rs → r ≡ slice_index_or rs i d
     → high ≡ highest_view w (take i rs) → view ≡ view_of w r → max high view ≡ highest_view w (take (i + 1) rs)
-highest-next w rs i d r high view l at h v =
-    ap (λ (n : ℕ). max n view) h
-    ∙ (ap (λ (n : ℕ). max (highest_view w (take i rs)) n) v
-    ∙ sym (ap (λ (xs : List ℕ). highest_view w xs) (take_more rs i d l ∙ ap (λ (x : ℕ). take i rs ++ x ∷ []) (sym at))
-    ∙ highest-more w (take i rs) r))
+view-next w = highest-next (view_of w) (highest_view w) (view-none w) (view-first w)
 
-pub highest-all : (w : World) (rs : List ℕ) (i high : ℕ) → length rs ≤ i → high ≡ highest_view w (take i rs)
+pub view-all : (w : World) (rs : List ℕ) (i high : ℕ) → length rs ≤ i → high ≡ highest_view w (take i rs)
     → high ≡ highest_view w rs
-highest-all w rs i high l h = h ∙ ap (λ (xs : List ℕ). highest_view w xs) (take_all i rs l)
+view-all w = highest-all (view_of w) (highest_view w) (view-none w) (view-first w)
 
 -- the view that is to come, by what these replicas are
 pub to-come : (w : World) (rs : List ℕ) (l high above v : ℕ) (s : Sizes) → AreCorrect rs w → s ≡ w.sizes

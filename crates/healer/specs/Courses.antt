@@ -68,6 +68,10 @@ ToldWhere c P Q = (hs : List Happening) (w : World) → StandsAt c.stand hs w �
 abbrev pub HasReplica : ℕ → World → Type 0
 HasReplica r w = r < replicas w.sizes
 
+-- the number is that of a client of the world
+abbrev pub HasClient : ℕ → World → Type 0
+HasClient c w = c < w.sizes.clients
+
 -- these are the world's correct replicas
 abbrev pub AreCorrect : List ℕ → World → Type 0
 AreCorrect rs w = rs ≡ correct_replicas w

@@ -1,7 +1,9 @@
+pub mod Asked
 pub mod Courses
 pub mod Fetching
 pub mod Grounds
 pub mod Receipts
+pub mod Served
 pub mod Locks
 pub mod Records
 pub mod Supplied

@@ -3,9 +3,10 @@
 ghost use Rattle.std.specs.Prelude.{◌≡◌, ◌++◌, IfOk, OnOk};
 ghost use Rattle.recovery.specs.Healing.{agree_on, heal, highest_locked};
 ghost use Rattle.world_schedule.specs.Running.{IsRunOf};
-ghost use Rattle.healer.specs.Courses.{Goes, GoesWhere, ToldWhere, HasReplica, AreCorrect};
+ghost use Rattle.healer.specs.Courses.{Goes, GoesWhere, ToldWhere, HasReplica, HasClient, AreCorrect};
 ghost use Rattle.healer.specs.Grounds.{IsGround};
 ghost use Rattle.healer.specs.Receipts.{Answers};
+ghost use Rattle.healer.specs.Served.{heal_client, AreServed};
 
 use crate::blocks::{rounds, to_climb};
 use crate::fetching::{fetch_all, lowest_first};
@@ -14,7 +15,7 @@ use crate::leading::{highest_locked, lead_with, lock_of, make_first, over_lock};
 use crate::requests::{ask_again, request_of};
 use crate::views::{come_to, view_to_come};
 use ids::{ClientId, Digest, Fault, Height, ReplicaId};
-use recovery::never_wedged;
+use recovery::{never_wedged, requests_name_clients, waiting_clients_asked};
 use std::alloc::Global;
 use world_schedule::{Event, Outcome, World};
 
@@ -98,7 +99,8 @@ impl<'a> Healer<'a> {
 
     /// The same of a client, if it is correct and waits.
     fn heal_client(&mut self, client: ClientId) -> Result<(), Fault>
-        ensures { self.new.origin ≡ self.old.origin }
+        ensures origin { self.new.origin ≡ self.old.origin }
+        ensures turn { OnOk result (GoesWhere self.old (HasClient client) (heal_client client) self.new) }
     {
         match request_of(self, client) {
             Some(request) => self.heal(request),
@@ -117,12 +119,18 @@ pub struct Healed {
 
 /// Runs a schedule, and brings each correct client that waits its receipt, one after the other.
 pub fn heal_all(alloc: Global, world: &World, schedule: &[Event]) -> Result<Healed, Fault>
-    ensures { IfOk result (λ h. IsRunOf world.now (schedule.now ++ h.events.items) h.outcome) }
+    ensures ran { IfOk result (λ h. IsRunOf world.now (schedule.now ++ h.events.items) h.outcome) }
+    ensures served { IfOk result (λ h. AreServed world.now schedule.now h.outcome) }
 {
     let mut healer = Healer::new(alloc, world, schedule)?;
     for client in 0..world.config().clients() {
         healer.heal_client(ClientId(client))?;
     }
+    // For the proof: nobody is wedged, who waits sent its request, and the run is one in a world.
+    never_wedged();
+    waiting_clients_asked();
+    requests_name_clients();
+    healer.holds();
     let (events, outcome) = healer.finish()?;
     Ok(Healed { events, outcome })
 }

@@ -1,7 +1,7 @@
 //! A run that is healed.
 
 ghost use Rattle.std.specs.Prelude.{◌≡◌, ◌==◌, ◌++◌, [], ◌∷◌, not, List, Option, IfOk, OnOk, MatchOption, length, map, drop, take};
-ghost use Rattle.std.specs.Prelude.{Some, slice_get};
+ghost use Rattle.std.specs.Prelude.{Some, slice_get, option_map};
 ghost use Rattle.definitions.specs.Worlds as worlds;
 ghost use Rattle.definitions.specs.Worlds.{Happening, Sent, relay, offer, of_record};
 ghost use Rattle.recovery.specs.Correct.{amply, chronicle_of, lock_of};
@@ -12,6 +12,8 @@ ghost use Rattle.world_schedule.specs.Progress.{HasRun, StandsAt};
 ghost use Rattle.world_schedule.specs.Running.{IsRunOf};
 ghost use Rattle.world_schedule.specs.Settings.{Holds};
 ghost use Rattle.healer.specs.Courses.{Takes, Goes, GoesWhere, Told, ToldWhere, HasReplica, AreCorrect, IsReplicaIn};
+ghost use Rattle.healer.specs.Courses.{HasClient};
+ghost use Rattle.healer.specs.Asked.{session_of};
 ghost use Rattle.healer.specs.Records.{is_of, GoesTo};
 ghost use Rattle.ids.specs.Numbers.{kind_number};
 ghost use Rattle.signed_frames.specs.Outs.{to_of};
@@ -189,8 +191,11 @@ impl<'a> Healer<'a> {
     }
 
     /// The session of a correct client. None where there is no such client.
-    pub(crate) fn session(&self, client: ClientId) -> Option<&Session> {
-        if self.running.world().is_faulty(client.into()) {
+    pub(crate) fn session(&self, client: ClientId) -> Option<&Session>
+        ensures { ToldWhere self.now (HasClient client)
+            (λ w. option_map (λ s. s.now.session) result ≡ session_of client w) }
+    {
+        if self.running.world().is_faulty(PartyId::from(client)) {
             return None;
         }
         self.running.session(client)

@@ -12,6 +12,7 @@ use Rattle.definitions.specs.Bytes.{Bytes}
 use Rattle.world_schedule.specs.Running.{IsRunOf}
 use Rattle.world_schedule.specs.declared.event.Event.{Event}
 use Rattle.world_schedule.specs.declared.outcome.Outcome.{Outcome}
+use Rattle.healer.specs.Served.{AreServed}
 use Rattle.simulator.specs.Faults.{IsWhyNot, IsWhyNoOutcome, IsWhyNoRun, IsWhyNoWorld}
 use Rattle.run_report.specs.Reports.{outcome_text}
 use Rattle.simulator.specs.Schedules.{IsTextOf}
@@ -85,9 +86,11 @@ on_ok (Err e) (Err d) same q then = tt
 -- a text with the lines of healing
 pub healed_told : (r : Result (Unit {0}) refusal.Fault) (s : Schedule) (added : List Event) (o : Outcome)
     (old new : Bytes) → OnOk r (new ≡ old ++ flat_map (λ e. ended (event_text e)) added)
-    → IsRunOf (setting_of s.heading) (s.events.items ++ added) o → OnOk r (HasHealed s old new)
-healed_told (Ok x) s added o old new is ran = record { added = added; longer = is; outcome = o; ran = ran }
-healed_told (Err e) s added o old new is ran = tt
+    → IsRunOf (setting_of s.heading) (s.events.items ++ added) o → AreServed (setting_of s.heading) s.events.items o
+    → OnOk r (HasHealed s old new)
+healed_told (Ok x) s added o old new is ran served =
+    record { added = added; longer = is; outcome = o; ran = ran; served = served }
+healed_told (Err e) s added o old new is ran served = tt
 
 pub healed_from : (known old new : Option Bytes) (input text : Bytes) (s : Schedule)
     → IfSome known (λ xs. input ≡ xs) → IsTextOf s input → HasHealed s input text → Appends old new text

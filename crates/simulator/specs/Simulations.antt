@@ -11,6 +11,7 @@ use Rattle.world_schedule.specs.Settings.{Setting, why_not}
 use Rattle.world_schedule.specs.Running.{IsRunOf}
 use Rattle.world_schedule.specs.declared.event.Event.{Event}
 use Rattle.world_schedule.specs.declared.outcome.Outcome.{Outcome}
+use Rattle.healer.specs.Served.{AreServed}
 use Rattle.run_report.specs.Reports.{outcome_text}
 use Rattle.simulator.specs.Lines.{event_text}
 use Rattle.simulator.specs.Schedules.{IsTextOf, ended}
@@ -50,12 +51,14 @@ pub record IsToldOf (old new : Option Bytes) (input : Bytes) : Type 0 where
   pub told : IsTextOfRun schedule text
   pub written : Appends old new text
 
--- a schedule's text became longer by the lines of more events, and the run of all has an outcome
+-- a schedule's text became longer by the lines of more events, and the run of all has an outcome, in which each client
+-- that waited is served
 pub record HasHealed (s : Schedule) (old new : Bytes) : Type 0 where
   pub added : List Event
   pub longer : new ≡ old ++ flat_map (λ e. ended (event_text e)) added
   pub outcome : Outcome
   pub ran : IsRunOf (setting_of s.heading) (s.events.items ++ added) outcome
+  pub served : AreServed (setting_of s.heading) s.events.items outcome
 
 -- the input is a schedule, and its text with more events was appended to what was written before
 pub record IsHealedFrom (old new : Option Bytes) (input : Bytes) : Type 0 where

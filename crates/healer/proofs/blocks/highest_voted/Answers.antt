@@ -1,10 +1,10 @@
-use Rattle.std.proofs.Common.{arith, ◌∙◌}
+use Rattle.std.proofs.Common.{sym, arith, ◌∙◌}
 use Rattle.healer.proofs.Members.{item-is-replica}
 use Rattle.healer.proofs.Firsts.{voted-none, voted-next, voted-all}
 use Rattle.healer.proofs.blocks.highest_voted.Goals as goal
 
 pub loop-replica-init : goal.loop-replica-init
-loop-replica-init c = λ hs w t x. voted-none w
+loop-replica-init c = λ hs w t x. sym (voted-none w)
 
 pub loop-replica-preserved : goal.loop-replica-preserved
 loop-replica-preserved c = λ hs w t x.
