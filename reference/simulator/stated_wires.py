@@ -1,5 +1,5 @@
 """Cases of crates/wire_cases that show one thing each."""
-from . import wires
+from . import beginnings, letters, wires
 from .sizes import Config
 from .tags import big_endian, sha256
 
@@ -21,11 +21,12 @@ def run(data):
 
 
 def streams():
-    longest = {faults: wires.longest_frame(Config(faults, 1)) for faults in range(1, 11)}
+    longest = {faults: wires.longest_item(Config(faults, 1)) for faults in range(1, 11)}
     yield from (f"longest {faults}" for faults in longest)
-    most = longest[1]
+    most, frame = longest[1], wires.longest_frame(Config(1, 1))
     yield "put 1 - 01 0203 " + "00*300"
     yield f"put 1 07*{most} 07*{most + 1} 08"
+    yield f"put 1 c4+00*8+07*{frame} 07*{frame}"
     yield f"put 10 07*{longest[10]} 07*{longest[10] + 1}"
     few = field([b"\x01", b"", b"\x02\x03", b"", b"", bytes(range(40))])
     ends = {
@@ -51,6 +52,42 @@ def streams():
     yield from (f"room {faults} {size}" for faults in (1, 10) for size in (1000, 65536))
     yield f"room 1 {4 + most + wires.PIECE}"
     yield f"room 1 {4 + most + wires.PIECE + 1}"
+
+
+# ---- letters
+
+
+def all_letters():
+    """(name, what it says)"""
+    top, request = 2 ** 64 - 1, bytes(range(1, 40))
+    yield from (("passed", [brought]) for brought in (request, b"", b"\xc1", b"\x01" * 70))
+    yield from (("doubted", [voters]) for voters in (0, 1, 0x01020304, 2 ** 32 - 1))
+    yield from (("asked", [height, size]) for height, size in ((0, 0), (1, 2), (0x0102030405060708, 65536), (top, top)))
+    for name in ("recorded", "announced"):
+        yield from ((name, [height, frame]) for height, frame in ((7, request), (0, b""), (top, b"\xff" * 70)))
+    yield from (("answered", [3, 4, is_last]) for is_last in (False, True))
+    yield "answered", [0x1112131415161718, top, True]
+    yield from (("told", [11, 9, 10, 12, goes_on, is_away]) for goes_on in (False, True) for is_away in (False, True))
+    yield "told", [0x0102030405060708, 0x1112131415161718, 0x2122232425262728, top, True, False]
+
+
+def letter_texts():
+    spelled = [letters.write(name, said) for name, said in all_letters()]
+    yield from spelled
+    yield from (bytes([first]) + b"\x05" for first in (0, 1, 7, 8, 129, 130, 131, 191))
+    yield from (b"\x82", b"\x82\x02" + bytes(70), b"")
+    # nothing behind the mark, one byte less, and one more
+    yield from (bytes([mark]) for mark in range(letters.FIRST_MARK, 256))
+    for text in spelled:
+        yield from (text[:-1], text + b"\x00")
+    # neither yes nor no
+    answer, progress = letters.write("answered", [3, 4, True]), letters.write("told", [11, 9, 10, 12, True, True])
+    for text, at in ((answer, 17), (progress, 33), (progress, 34)):
+        yield from (text[:at] + bytes([byte]) + text[at + 1:] for byte in (2, 128, 255))
+
+
+def letter_lines():
+    yield from (f"letter {run(text) or '-'}" for text in dict.fromkeys(letter_texts()))
 
 
 # ---- handshakes
@@ -187,9 +224,102 @@ def outboxes():
     yield "outbox 18446744073709551615 put=01*5000 put=02*5000 put=03*5000 take=10000 take=18446744073709551615 empty"
 
 
+# ---- beginnings
+
+
+def text_field(text):
+    """Bytes of a text, a run of one digit told by its length."""
+    parts, at = [], 0
+    while at < len(text):
+        end = at
+        while end < len(text) and text[end] == text[at]:
+            end += 1
+        if end - at > 8:
+            parts.append("%02x*%d" % (text[at], end - at))
+        elif parts and "*" not in parts[-1]:
+            parts[-1] += text[at:end].hex()
+        else:
+            parts.append(text[at:end].hex())
+        at = end
+    return "+".join(parts) or "-"
+
+
+def key_file(faults, clients, holder, digit=lambda p, q: "%x" % ((p + q) % 16)):
+    held = beginnings.pairs(faults, clients, holder)
+    return b"".join(b"%d %d %s\n" % (p, q, digit(p, q).encode() * 64) for p, q in held)
+
+
+def key_files():
+    parties = "0 1 3 4 255 256 257 258 259"
+    holders = ["all", "r0", "r3", "r4", "c0+1", "c1+2", "c0+3", "c2+0", "c3+1"]
+    for holder in holders:
+        yield f"keys 1 3 {holder} {text_field(key_file(1, 3, holder))} {parties}"
+    for holder, other in [("r1", "all"), ("all", "r1"), ("r1", "r2"), ("c0+1", "c1+1"), ("c0+2", "c0+1"), ("r0", "c0+3")]:
+        yield f"keys 1 3 {holder} {text_field(key_file(1, 3, other))}"
+    own = key_file(1, 1, "c0+1")
+    yield from (f"keys 1 1 c0+1 {text_field(own[:end])}" for end in (0, 10, 69, 70, 71, 72, len(own) - 1))
+    for bad in (own + b"\n", own + own[:71], b" " + own, own.replace(b"4", b"04", 1), own.replace(b"\n", b"\r\n"),
+                own.replace(b"0 256 ", b"256 0 ", 1), own.replace(b"0 256 0", b"0 256 A", 1),
+                own.replace(b"0 256 0", b"0 256 g", 1), b"\n".join(reversed(own.split(b"\n")))):
+        yield f"keys 1 1 c0+1 {text_field(bad)}"
+    yield f"keys 2 2 r6 {text_field(key_file(2, 2, 'r6'))} 6 0 256"
+
+
+def deployment_file(faults, clients, kept, fronts):
+    count = 3 * faults + 1
+    lines = [f"faults {faults}", f"clients {clients}", f"keys-held {kept}"]
+    lines += [f"replica {i} 10.0.0.{i}:7450" for i in range(count)]
+    lines += [f"front {k} {some}" for k, some in enumerate(fronts)]
+    return lines
+
+
+def deployments():
+    def case(lines):
+        return "deployment " + text_field("".join(line + "\n" for line in lines).encode())
+    good = deployment_file(1, 24, 65536, [8, 15, 1])
+    yield case(good)
+    yield case(deployment_file(1, 1, 1, [1]))
+    yield case(deployment_file(10, 64, 65536, [1] * 64))
+    yield case(deployment_file(2, 5, 100, [5]))
+    for at in range(len(good)):
+        yield case(good[:at] + good[at + 1:])
+        yield case(good[:at] + [good[at] + " "] + good[at + 1:])
+        yield case(good[:at] + [good[at].upper()] + good[at + 1:])
+        yield case(good[:at] + [good[at]] + good[at:])
+        yield case(good[:at] + [""] + good[at:])
+    changes = {0: ["faults 0", "faults 11", "faults 01", "faults 257", "faults 18446744073709551617", "faults", "faults x"],
+               1: ["clients 0", "clients 65", "clients 25", "clients 23", "clients 280"],
+               2: ["keys-held 0", "keys-held 65537", "keys-held 4294967297"],
+               4: ["replica 2 a:1", "replica 01 a:1", "replica 1 ", "replica 1", "replica 1 a b", "replica 1  a:1",
+                   "replica 1 a\x7f", "replica 1 cache-c.example:7450", "replica 1 [::1]:7450"],
+               7: ["front 0 0", "front 0 25", "front 0 24", "front 1 8", "front 0 8 8", "front 00 8"],
+               9: ["front 2 2", "front 2 0", "front 2 257", "front 3 1"]}
+    for at, lines in changes.items():
+        yield from (case(good[:at] + [line] + good[at + 1:]) for line in lines)
+    whole = "".join(line + "\n" for line in good).encode()
+    yield from ("deployment " + text_field(whole[:end]) for end in (0, 1, 8, 9, 60, len(whole) - 1))
+    yield from ("deployment " + text_field(bad) for bad in (whole + b"x", whole + b"\n", whole.replace(b"\n", b"\r\n"),
+                                                           b"\xef\xbb\xbf" + whole))
+
+
+def marks():
+    for party in (0, 30, 256, 319):
+        for mark in (0, 1, 2, 4096, 2 ** 64 - 1):
+            yield f"begin {party} {mark}"
+            yield f"mark {party} {beginnings.mark_text(party, mark).hex()}"
+    texts = [b"256 7\n", b"256 7", b"256 07\n", b"256 \n", b"256\n", b"256  7\n", b" 256 7\n", b"256 7 \n", b"256 7\n\n",
+             b"25 67\n", b"0256 7\n", b"256 18446744073709551616\n", b"256 -1\n", b"256 +1\n", b"256 7\r\n", b"", b"\0" * 8,
+             b"2 256 7\n", b"256 18446744073709551615\n", b"257 7\n"]
+    yield from (f"mark 256 {text.hex() or '-'}" for text in texts)
+
+
 def all_cases():
     yield from streams()
+    yield from letter_lines()
     yield from dials()
     yield from admissions()
     yield from hearings()
     yield from outboxes()
+    yield from key_files()
+    yield from deployments()
+    yield from marks()

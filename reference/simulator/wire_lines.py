@@ -1,15 +1,16 @@
 """The cases of crates/wire_cases: what is wanted of each line. The heads of the program's files have the format."""
 from hashlib import sha256
 
-from . import wires
+from . import beginnings, letters, wires
 from .frame_lines import bytes_of as parts_of
 from .sizes import Config
+from .tags import big_endian
 from .wires import NotNamed
 
 MOST_TOLD = 64
 LETTERS = {"not a greeting": "G", "for another party": "M", "no such party may dial": "P", "bad tag": "T",
            "other sizes": "S"}
-TOO_LONG = "a length that no frame has"
+TOO_LONG = "a length that no item has"
 NO_ROOM = "more bytes than there is room for"
 
 
@@ -36,9 +37,9 @@ def given(longest, stream):
 
 def tell_stream(subject, fields):
     config = Config(int(fields[0]), 1)
-    longest = wires.longest_frame(config)
+    longest = wires.longest_item(config)
     if subject == "longest":
-        return str(longest)
+        return f"{wires.longest_frame(config)} {longest}"
     if subject == "put":
         words, wire = [], b""
         for frame in map(bytes_of, fields[1:]):
@@ -51,6 +52,24 @@ def tell_stream(subject, fields):
     stream = bytes_of(fields[1])
     alike = len(stream) + 1 if subject == "cuts" else len(fields) - 2
     return " ".join([*given(longest, stream), str(alike), "alike"])
+
+
+# ---- letters
+
+
+def said_words(field):
+    if isinstance(field, bool):
+        return "yes" if field else "no"
+    return str(field) if isinstance(field, int) else told(field)
+
+
+def tell_letter(field):
+    """What a text says, and what is written of that."""
+    try:
+        name, said = letters.read(bytes_of(field))
+    except letters.NotALetter:
+        return "none"
+    return " ".join([name, *map(said_words, said), told(letters.write(name, said))])
 
 
 # ---- handshakes
@@ -130,10 +149,54 @@ def tell_outbox(fields):
     return " ".join(words)
 
 
+# ---- beginnings
+
+
+def tell_keys(fields):
+    faults, clients, holder = int(fields[0]), int(fields[1]), fields[2]
+    found = beginnings.keys(faults, clients, holder, bytes_of(fields[3]))
+    if found is None:
+        return "bad keys"
+    words = [told(b"".join(big_endian(p, 2) + big_endian(q, 2) + key for p, q, key in found))]
+    for party in map(int, fields[4:]):
+        if not beginnings.is_party(faults, clients, party):
+            words.append("no such party")
+        else:
+            words.append("a keyring" if beginnings.acts_for(holder, party) else "not for this party")
+    return ", ".join(words)
+
+
+def tell_deployment(fields):
+    try:
+        faults, clients, kept, addresses, fronts = beginnings.deployment(bytes_of(fields[0]))
+    except beginnings.BadLine as bad:
+        return "bad line %d" % bad.args
+    places = [address.hex() for address in addresses]
+    return " ".join([f"{faults} {clients} {kept} at", *places, "fronts", *map(str, fronts)])
+
+
+def tell_mark(fields):
+    found = beginnings.mark(int(fields[0]), bytes_of(fields[1]))
+    return "none" if found is None else str(found)
+
+
+def tell_begin(fields):
+    party, mark = map(int, fields)
+    has_spoken = party < beginnings.CLIENT and mark > 0
+    return "%s %s" % (beginnings.mark_text(party, mark).hex(), "has run before" if has_spoken else mark)
+
+
+BEGINNINGS = {"keys": tell_keys, "deployment": tell_deployment, "mark": tell_mark, "begin": tell_begin}
+
+
 def tell(line):
     subject, *fields = line.split(" ")
+    if subject in BEGINNINGS:
+        return BEGINNINGS[subject](fields)
     if subject == "outbox":
         return tell_outbox(fields)
+    if subject == "letter":
+        return tell_letter(fields[0])
     if subject in ("longest", "put", "cuts", "pieces", "room"):
         return tell_stream(subject, fields)
     return tell_handshake(subject, fields)

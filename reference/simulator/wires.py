@@ -1,7 +1,7 @@
 """What goes between processes: frames on a wire, the handshake of two ends, and what waits for one peer.
 
-A frame goes as four bytes of its length and its bytes; a length of 0 is a ping. A length above that of the longest
-frame of the sizes ends the connection.
+A frame goes as four bytes of its length and its bytes; a length of 0 is a ping. So does a letter that carries one. A
+length more than 16 above that of the longest frame of the sizes ends the connection.
 
 Of two parties the one with the higher number dials. The acceptor greets with some words and a nonce. The dialler says
 who it is, whom it asks, the digest of its sizes, its life and its nonce, with a tag under the key of the two. The
@@ -19,6 +19,7 @@ from .tags import big_endian
 # ---- frames on a wire
 
 PIECE = 65536
+MOST_BEFORE = 16
 
 
 def on_wire(frame):
@@ -59,8 +60,13 @@ def longest_frame(config):
     return max(len(data) for data in spelled)
 
 
+def longest_item(config):
+    """The longest frame, and what a letter may put before it."""
+    return longest_frame(config) + MOST_BEFORE
+
+
 def items(longest, stream):
-    """The frames that stand in a stream, and whether a length ends it that no frame has."""
+    """The frames that stand in a stream, and whether a length ends it that no item has."""
     given, at = [], 0
     while at + 4 <= len(stream):
         size = int.from_bytes(stream[at:at + 4], "big")

@@ -1,8 +1,10 @@
-//! Cases of what goes over wires. Each line of standard input is a case behind the name of its subject:
+//! Cases of what goes over wires, and of what a process reads when it begins. Each line of standard input is a case behind the name of its subject:
 //!
 //! - `longest`, `put`, `cuts`, `pieces`, `room`: frames on a wire (`streams.rt`).
+//! - `letter`: texts of letters (`letter_texts.rt`).
 //! - `greeting`, `dial`, `admit`, `hear`, and these with a changed byte: handshakes (`handshakes.rt`).
 //! - `outbox`: calls of an outbox (`outboxes.rt`).
+//! - `keys`, `deployment`, `mark`, `begin`: key files of holders, deployment files, marks (`state.rt`).
 //!
 //! A line is printed of each. What is wanted was computed by an independent program, `reference/wire_cases`.
 #![tactic(auto)]
@@ -10,7 +12,9 @@
 mod endpoints;
 mod fields;
 mod handshakes;
+mod letter_texts;
 mod outboxes;
+mod state;
 mod streams;
 
 use anyhow::{Result, bail};
@@ -23,7 +27,9 @@ fn case_told(alloc: Global, line: &str) -> Result<String> {
     };
     match subject {
         "longest" | "put" | "cuts" | "pieces" | "room" => streams::case_told(alloc, subject, case),
+        "letter" => letter_texts::case_told(alloc, case),
         "outbox" => outboxes::case_told(alloc, case),
+        "keys" | "deployment" | "mark" | "begin" => state::case_told(alloc, subject, case),
         _ => handshakes::case_told(alloc, subject, case),
     }
 }

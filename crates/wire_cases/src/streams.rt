@@ -1,6 +1,6 @@
 //! Frames on a wire.
 //!
-//! - Of `longest FAULTS` the length of the longest frame is told.
+//! - Of `longest FAULTS` the lengths of the longest frame and of the longest item are told.
 //! - Of `put FAULTS FRAME ..` a word for each frame, `put` or why not, and then what goes over the wire.
 //! - Of `pieces FAULTS STREAM LENGTH ..` what a feed gives of the stream in pieces of the first length: `ping`, or a
 //!   frame, and at last `more` or why nothing more comes; then how many of the lengths give the same.
@@ -11,7 +11,7 @@ use crate::fields::{bytes_of, told};
 use anyhow::{Context, Result, bail};
 use ids::Config;
 use std::alloc::Global;
-use wire_frames::{Feed, Item, WireFault, longest_frame, put};
+use wire_frames::{Feed, Item, WireFault, longest_frame, longest_item, put};
 
 /// The longest piece.
 const PIECE: usize = 65_536;
@@ -149,7 +149,10 @@ pub(crate) fn case_told(alloc: Global, subject: &str, case: &str) -> Result<Stri
     let (faults, rest) = case.split_once(' ').unwrap_or((case, ""));
     let config = Config::new(faults.parse()?, 1)?;
     match subject {
-        "longest" => Ok(format!(in alloc; "{}", longest_frame(&config))?),
+        "longest" => {
+            let frame = longest_frame(&config);
+            Ok(format!(in alloc; "{frame} {}", longest_item(&config))?)
+        }
         "put" => put_all(alloc, &config, rest),
         "cuts" => cuts(alloc, &config, &bytes_of(alloc, rest)?),
         "pieces" => pieces(alloc, &config, rest),

@@ -66,7 +66,7 @@ given_of_pushed longest (asked refused ∷ calls) held left h =
 abbrev AreShort : ℕ → List Bytes → Type 0
 AreShort longest frames = AllByRecursion (λ frame. length frame ≤ longest) frames
 
--- a length that no frame has doesn't stand at the front of frames
+-- a length that no item has doesn't stand at the front of frames
 no_such_length : (longest : ℕ) (frames : List Bytes) (held t : Bytes) → longest < 2 ^ 32 → AreShort longest frames
     → IsTooLong longest held → held ++ t ≡ stream frames → ⊥
 no_such_length longest [] held t limit short long e =

@@ -31,13 +31,13 @@ abbrev pub IsUnfinished : ℕ → Bytes → Type 0
 IsUnfinished longest bytes =
     (length bytes < length_len) ⊎ ((told bytes ≤ longest) × (length bytes < length_len + told bytes))
 
--- the bytes begin with a length that no frame has
+-- the bytes begin with a length that no item has
 abbrev pub IsTooLong : ℕ → Bytes → Type 0
 IsTooLong longest bytes = (length_len ≤ length bytes) × (longest < told bytes)
 
 -- ---- a feed
 
--- what a feed is: the longest frame that it takes, the longest piece, and the bytes that it holds
+-- what a feed is: the longest item that it takes, the longest piece, and the bytes that it holds
 pub record Holding : Type 0 where
   pub longest : ℕ
   pub piece : ℕ
@@ -65,7 +65,7 @@ answer_of (Ok None) = more
 answer_of (Err fault) = refused
 
 -- The frame at the front of what is held is given, and its bytes are let go; or there is none yet, or a length that no
--- frame has, and all is held still.
+-- item has, and all is held still.
 abbrev pub Gives : ℕ → Bytes → Answer → Bytes → Type 0
 Gives longest held (gave frame) left = (length frame ≤ longest) × (held ≡ on_wire frame ++ left)
 Gives longest held more left = IsUnfinished longest held × (left ≡ held)

@@ -6,6 +6,7 @@ use Rattle.definitions.specs.Bytes.{Bytes}
 use Rattle.definitions.specs.Frames.{Frame}
 use Rattle.definitions.specs.FrameLimits.{Spells}
 use Rattle.definitions.specs.Tags.{tag_len}
+use Rattle.wire_frames.specs.declared.longest.TheConstants.{MOST_BEFORE}
 
 -- a tag for each replica
 abbrev pub vector_len : Sizes → ℕ
@@ -29,6 +30,10 @@ longest_head sizes = if nat_le sizes.faults MOST_FAULTS_OF_VERSION_ONE then 1 el
 abbrev pub longest_frame : Sizes → ℕ
 longest_frame sizes = longest_head sizes + 8 + (32 + 8 + 8 + 1) + MOST_COMMANDS * command_len sizes
     + (32 + 1) + most_votes sizes * (2 + vector_len sizes) + vector_len sizes
+
+-- the longest item on a wire: the longest frame, with what may stand before it
+abbrev pub longest_item : Sizes → ℕ
+longest_item sizes = longest_frame sizes + MOST_BEFORE
 
 -- Bytes that spell a frame at these sizes, in either version, have at most so many bytes.
 abbrev pub NoneIsLonger : Type 0

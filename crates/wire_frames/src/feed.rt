@@ -1,10 +1,10 @@
 ghost use Rattle.wire_frames.specs.Framing.{Gives, HasBytes, answer_of, most_held};
-ghost use Rattle.wire_frames.specs.Longest.{longest_frame};
+ghost use Rattle.wire_frames.specs.Longest.{longest_item};
 ghost use Rattle.std.specs.Prelude.{◌≡◌, ◌+◌, ◌-◌, ◌<◌, ◌≤◌, ◌++◌, [], length, drop, vec_capacity, IfOk};
 ghost use Rattle.std.specs.Prelude.{IfSome, OnOk, OnErr, IsOk, Err, nat_lt, MatchBool};
 
 use crate::item::Item;
-use crate::longest::longest_frame;
+use crate::longest::longest_item;
 use crate::wire_fault::WireFault;
 use appending::put;
 use ids::Config;
@@ -14,7 +14,7 @@ use std::marker::Model;
 /// The bytes that a connection brought and whose frames weren't given yet.
 ///
 /// What was given isn't moved: `start` goes behind it, and the rest is moved to the front only where new bytes find no
-/// room behind it. A length that no frame has stays at `start`, so that each further `next` finds it again.
+/// room behind it. A length that no item has stays at `start`, so that each further `next` finds it again.
 #[derive(Drop)]
 pub struct Feed {
     bytes: Vec<u8>,
@@ -81,14 +81,14 @@ impl Feed {
     ghost use Rattle.std.specs.Io.BufRead.{Rests};
     ghost use Rattle.wire_frames.specs.declared.wire_fault.WireFault.TheVariants.{FeedFull, Memory, TooLong};
 
-    /// A feed that holds nothing, with room for the longest frame at these sizes, its length, and a piece of so many
+    /// A feed that holds nothing, with room for the longest item at these sizes, its length, and a piece of so many
     /// bytes. No other call takes memory. `Memory` where that room is refused.
     pub fn new(alloc: Global, config: &Config, piece: usize) -> Result<Feed, WireFault>
         ensures empty { IfOk result (λ feed. feed
-            ≡ record { longest = longest_frame config.now; piece = piece; held = [] }) }
+            ≡ record { longest = longest_item config.now; piece = piece; held = [] }) }
         ensures memory { OnErr result (result ≡ Err Memory) }
     {
-        let longest = longest_frame(config);
+        let longest = longest_item(config);
         let most = (4 + longest).checked_add(piece).ok_or(WireFault::Memory)?;
         let bytes = Vec::with_capacity(alloc, most)?;
         Ok(Feed {
@@ -122,7 +122,7 @@ impl Feed {
     }
 
     /// The frame or the ping at the front of what is held, or `None` where it isn't whole yet. Its bytes are let go,
-    /// and the next call gives what stands behind them. `TooLong` where a length is told that no frame at these sizes
+    /// and the next call gives what stands behind them. `TooLong` where a length is told that no item at these sizes
     /// has; every further call says so again. What is given lies in the feed's buffer, so the feed can't change while
     /// it is in use.
     pub fn next(&mut self) -> Result<Option<Item<'_>>, WireFault>

@@ -8,7 +8,7 @@ use std::fmt;
 /// Why frames don't go over a wire.
 #[derive(Clone, Copy, Debug, PartialEq, Eq)]
 pub enum WireFault {
-    /// A frame, or a length that was told, is above that of the longest frame.
+    /// A frame, or a length that was told, is above that of the longest item.
     TooLong,
     /// More bytes came than there is room for.
     FeedFull,
@@ -27,7 +27,7 @@ impl From<AllocError> for WireFault {
 impl fmt::Display for WireFault {
     fn fmt<W: fmt::Write>(&self, f: &mut fmt::Formatter<W>) -> fmt::Result {
         f.write_str(match self {
-            WireFault::TooLong => "a length that no frame has",
+            WireFault::TooLong => "a length that no item has",
             WireFault::FeedFull => "more bytes than there is room for",
             WireFault::Memory => "out of memory",
         })

@@ -163,7 +163,7 @@ impl<R: AllocGlobal + Clock + Net<Stream = TcpStream>> Villain<'_, R> {
         is_closed(&stream)
     }
 
-    /// Tells a length that no frame has.
+    /// Tells a length that no item has.
     pub(crate) fn tells_no_length(&self) -> Result<bool> {
         let visit = self.link()?;
         (&mut &visit.stream).write_all(&[255; 4])?;

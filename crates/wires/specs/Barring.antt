@@ -1,4 +1,4 @@
--- How long a peer stays out that told a length that no frame has. Moments are milliseconds.
+-- How long a peer stays out that told a length that no item has. Moments are milliseconds.
 use Rattle.std.specs.Prelude.{ℕ, ◌+◌, ◌*◌, ◌-◌, ◌^◌, min, nat_le, if◌then◌else◌}
 use Rattle.tuning.specs.declared.clients.TheConstants.{MOST_DOUBLINGS}
 use Rattle.wires.specs.declared.bar.Bar.{Bar}

@@ -21,7 +21,7 @@ module _ {A : Type 0} (takes : A → ℕ → Bytes → A → Type 0) (from : ℕ
     pub are : bytes ≡ stream frames ++ left
     pub hands : HandsOn old frames new
 
--- What is left when nothing more is read: a length that no frame has, or no whole frame.
+-- What is left when nothing more is read: a length that no item has, or no whole frame.
 abbrev pub IsLeft : (longest : ℕ) → Bytes → End → Type 0
 IsLeft longest left BadLength = IsTooLong longest left
 IsLeft longest left Closed = IsUnfinished longest left

@@ -1,4 +1,4 @@
-//! How long a peer stays out that told a length that no frame has.
+//! How long a peer stays out that told a length that no item has.
 
 ghost use Rattle.std.specs.Prelude.{◌≡◌, ◌-◌, nat_lt};
 ghost use Rattle.wires.specs.Barring.{bar_after, bar_of, lengthened, times_by};

@@ -5,7 +5,7 @@ pub enum End {
     Closed,
     /// It failed, or nothing came for too long.
     Failed,
-    /// It told a length that no frame has.
+    /// It told a length that no item has.
     BadLength,
     /// The allocator refused memory.
     Memory,

@@ -19,7 +19,7 @@ pub struct Pace {
     pub redial: Duration,
     /// How long it is at most. A link that lasted so long was no failure.
     pub most_redial: Duration,
-    /// How long a peer stays out that told a length that no frame has, the first time. It doubles (`MOST_DOUBLINGS`).
+    /// How long a peer stays out that told a length that no item has, the first time. It doubles (`MOST_DOUBLINGS`).
     pub bar: Duration,
     /// How many connections of one named address, and of all strangers, may be at their handshakes.
     pub places: usize,

@@ -2,7 +2,7 @@
 
 ghost use Rattle.std.specs.Prelude.{◌≡◌, ◌≤◌, length, OnOk, OnErr, MatchResult};
 ghost use Rattle.wire_frames.specs.Framing.{IsUnfinished, IsTooLong};
-ghost use Rattle.wire_frames.specs.Longest.{longest_frame};
+ghost use Rattle.wire_frames.specs.Longest.{longest_item};
 ghost use Rattle.wires.specs.Receiving.{Passes, Receives, ReceivesMore, IsLeft};
 
 use crate::arrivals::Arrivals;
@@ -117,7 +117,7 @@ pub fn receive<R: Clock, D: Read, A: Arrivals>(
     is_over: &AtomicBool,
 ) -> End
     ensures { Receives A.takes peer.now.party rows.old rows.new (D.remaining reader.old.device)
-        (D.remaining reader.new.device) (longest_frame config.now) result }
+        (D.remaining reader.new.device) (longest_item config.now) result }
 {
     let Ok(mut feed) = Feed::new(alloc, config, WIRE_PIECE_BYTES) else {
         return End::Memory;

@@ -11,7 +11,7 @@ use crate::end::End;
 use crate::link::{Link, settle};
 use crate::wires::Wires;
 use bytes::Bytes;
-use handshake::Peer;
+use handshake::{Life, Peer};
 use ids::PartyId;
 use outbox::{Outbox, Refusal};
 use std::alloc::Global;
@@ -39,6 +39,8 @@ struct Inside {
     outbox: Outbox,
     link: Option<Arc<Link>>,
     bar: Bar,
+    /// The life in which the party was met, where it is a replica: it is met in no other.
+    life: Option<Life>,
     /// How many links there were.
     links: u64,
     is_over: bool,
@@ -125,6 +127,24 @@ impl Inside {
         true
     }
 
+    /// Whether the party may be met in this life. A replica in another one than before came back without its memory, or is
+    /// there twice.
+    fn may_be_met(&self, life: Life) -> bool {
+        match self.life {
+            Some(known) => known == life,
+            None => true,
+        }
+    }
+
+    /// The party was met in this life.
+    fn note_life(&mut self, life: Life)
+        ensures { self.new ≡ record self.old { life = self.new.life } }
+    {
+        if self.party.client().is_none() {
+            self.life = Some(life);
+        }
+    }
+
     /// A connection of the party ended so, at this moment.
     fn note_end(&mut self, end: End, now: u64)
         ensures { self.new ≡ record self.old { bar = bar_after self.old.bar end now } }
@@ -135,7 +155,7 @@ impl Inside {
 
 impl Slot {
     /// A place for this peer, who isn't there yet. It stays out for so many milliseconds where it tells a length that no
-    /// frame has, the first time.
+    /// item has, the first time.
     pub(crate) fn new(alloc: Global, terms: PeerTerms, bar: u64) -> Slot {
         let mut outbox = Outbox::new(alloc, terms.backlog);
         if !terms.is_kept {
@@ -148,6 +168,7 @@ impl Slot {
                 outbox,
                 link: None,
                 bar: Bar::none(bar),
+                life: None,
                 links: 0,
                 is_over: false,
                 writer_sleeps: false,
@@ -181,7 +202,8 @@ impl Slot {
         self.inside.lock(rt).link.is_some()
     }
 
-    /// A handshake named this peer: the connection is its link now, and a former one ends. False where that can't be.
+    /// A handshake named this peer: the connection is its link now, and a former one ends. False where that can't be, and where
+    /// it is a replica in a second life.
     pub(crate) fn enter<R: Wait + Clock + AllocGlobal>(
         &self,
         rt: &R,
@@ -192,13 +214,20 @@ impl Slot {
         if !settle(&stream, &wires.pace) {
             return false;
         }
-        let now = wires.millis(rt);
+        let (now, life) = (wires.millis(rt), peer.life());
         let mut inside = self.inside.lock(rt);
+        if !inside.may_be_met(life) {
+            wires.note_other_life(self.terms.party);
+            return false;
+        }
         let number = inside.links.saturating_add(1);
         let Ok(link) = Arc::new(rt.alloc(), Link::new(number, peer, stream)) else {
             return false;
         };
         let is_in = inside.take_link(link, now);
+        if is_in {
+            inside.note_life(life);
+        }
         drop(inside);
         if is_in {
             self.ring();

@@ -10,18 +10,18 @@ use ids::{Config, Fault, PartyId};
 use std::net::{Shutdown, TcpListener, TcpStream};
 use std::os::fd::OwnedFd;
 use std::random::RandomSource;
-use std::sync::atomic::AtomicBool;
 use std::sync::atomic::Ordering::SeqCst;
+use std::sync::atomic::{AtomicBool, AtomicU32};
 use std::sync::{Mutex, Wait};
 use std::time::Clock;
-use wire_frames::longest_frame;
+use wire_frames::longest_item;
 
 /// Why a frame isn't on its way.
 #[derive(Clone, Copy, Debug, PartialEq, Eq)]
 pub enum NotSent {
     /// There is no such peer.
     NoSuchPeer,
-    /// No frame of the grammar is so long, or it has no byte.
+    /// It is longer than any item at these sizes, or has no byte.
     BadLength,
     /// It was lost, as its outbox says.
     Lost(outbox::Refusal),
@@ -38,6 +38,8 @@ pub struct Wires {
     is_over: AtomicBool,
     began: Beginning,
     other_sizes: Mutex<OtherSizes>,
+    /// One more than the party that came in a second life last; 0 where none did since that was asked for.
+    other_life: AtomicU32,
 }
 
 /// A nonce that nobody can tell before.
@@ -83,6 +85,7 @@ impl Wires {
             is_over: AtomicBool::new(false),
             began: Beginning::new(rt),
             other_sizes: Mutex::new(OtherSizes::none()),
+            other_life: AtomicU32::new(0),
         })
     }
 
@@ -100,7 +103,7 @@ impl Wires {
     /// that peer's place just then, none of whom waits for anything.
     pub fn send<R: Wait>(&self, rt: &R, to: PartyId, frame: Bytes) -> Result<(), NotSent> {
         let slot = self.slot(to).ok_or(NotSent::NoSuchPeer)?;
-        if frame.is_empty() || frame.len() > longest_frame(self.config()) {
+        if frame.is_empty() || frame.len() > longest_item(self.config()) {
             return Err(NotSent::BadLength);
         }
         slot.put(rt, frame).map_err(NotSent::Lost)
@@ -129,6 +132,18 @@ impl Wires {
     /// This one did.
     pub(crate) fn note_other_sizes<R: Wait>(&self, rt: &R, peer: PartyId) {
         self.other_sizes.lock(rt).note(peer);
+    }
+
+    /// Which replica came in a second life, since this was asked last, if one did: it is kept out. It came back without its
+    /// memory, or is there twice.
+    pub fn take_other_life(&self) -> Option<PartyId> {
+        let party = self.other_life.swap(0, SeqCst).checked_sub(1)?;
+        u16::try_from(party).ok().map(|party| PartyId(party))
+    }
+
+    /// This one did.
+    pub(crate) fn note_other_life(&self, peer: PartyId) {
+        self.other_life.store(u32::from(peer.0) + 1, SeqCst);
     }
 
     /// Whether all is told to end.

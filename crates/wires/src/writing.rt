@@ -24,7 +24,7 @@ fn spell(config: &Config, frames: &[Bytes], out: &mut Vec<u8>) -> Result<(), Wir
 /// Writes frames, one behind the other, in one go. A frame of no bytes is a ping. `room` is what they are put together
 /// in; what it holds is dropped.
 ///
-/// `WriteFailed` where the device failed; `Full` where a frame is longer than any of the grammar at these sizes; else
+/// `WriteFailed` where the device failed; `Full` where a frame is longer than any item at these sizes; else
 /// `Memory`. Where a write failed a beginning of them was written.
 pub fn write_frames<W: Write>(
     config: &Config,

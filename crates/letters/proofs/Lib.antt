@@ -1,0 +1,2 @@
+mod Exact
+mod OneText
