@@ -1,3 +1,4 @@
+pub mod Rows
 pub mod Shares
 pub mod Sizes
 pub mod Inboxes

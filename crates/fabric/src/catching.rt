@@ -31,13 +31,14 @@ impl<'a, G: Gate, O: Outgoing + Questioned + Recording> Worker<'a, G, O> {
         }
     }
 
-    /// Takes what another replica answered, where that is awaited. Announcements come where there is nothing more, and where
+    /// Takes what another replica answered, where this one was asked and the answer is awaited. Announcements come where there is nothing more, and where
     /// the last question was in vain: a block of a later view may stand higher than this one lets in.
     pub(crate) fn take_answer<R: Wait + Clock, S: Steps>(
         &mut self,
         rt: &R,
         steps: &mut S,
         share: &mut Share,
+        from: ReplicaId,
         answer: Answer,
     )
         ensures { HasGrown share.old share.new }
@@ -48,10 +49,10 @@ impl<'a, G: Gate, O: Outgoing + Questioned + Recording> Worker<'a, G, O> {
             announced,
             is_last,
         } = answer;
-        if !self.out.awaits(rt, &question) {
+        if from != question.to || !self.out.awaits(rt, &question) {
             return;
         }
-        self.take_recorded(rt, steps, share, question.to, frames);
+        self.take_recorded(rt, steps, share, from, frames);
         if is_last || question.bytes > CATCH_UP_BYTES {
             self.take_announced(rt, steps, share, announced);
         }

@@ -19,8 +19,10 @@ struct FromReplica {
 }
 
 /// Why a frame isn't handed in at a client's link.
-#[derive(Clone, Copy, PartialEq, Eq)]
-pub(crate) enum NotTold {
+#[derive(Clone, Copy, Debug, PartialEq, Eq)]
+pub enum NotTold {
+    /// There is no such client.
+    NoSuchClient,
     /// It doesn't fit in the share of its replica, or there is no such replica.
     Full,
     /// Memory was refused.

@@ -1,7 +1,7 @@
 //! Where the parcels of one replica's link wait.
 
 ghost use Rattle.std.specs.Prelude.{◌≡◌, ◌+◌, ◌-◌, ◌/◌, ◌^◌, ◌<◌, ◌≤◌, ◌⊎◌, ◌==◌, ◌&&◌, ◌||◌, ℕ, false, true, is_some, length};
-ghost use Rattle.std.specs.Prelude.{IfNone, IfOk, IfSome, MatchBool, OnErr, OnOk, OnSome, Some, map, min, nat_lt, option_map};
+ghost use Rattle.std.specs.Prelude.{IfNone, IfOk, IfSome, MatchBool, OnErr, OnOk, OnSome, Some, map, min, nat_le, nat_lt, option_map};
 ghost use Rattle.std.specs.Prelude.{if◌then◌else◌};
 ghost use Rattle.std.specs.Bool.{OnFalse, OnTrue};
 ghost use Rattle.std.specs.Option.{ForSome};
@@ -11,24 +11,18 @@ ghost use Rattle.ids.specs.Sizes.{replicas};
 ghost use Rattle.fabric.specs.Inboxes.{count_of, is_over};
 ghost use Rattle.fabric.specs.Parcels.{size_of};
 
-use crate::parcel::Parcel;
+use crate::parcel::{Answer, Base, Parcel};
+use crate::rows::{Row, Sender, answer_row, clock_row, replica_row, request_row, row_count};
 use bytes::Bytes;
 use fair_queue::{Allowance, FairQueue, Refusal};
-use ids::Config;
+use ids::{Config, Height, ReplicaId, View};
 use std::alloc::{AllocError, Global};
 use std::hint::spin_loop;
 use std::sync::atomic::AtomicU64;
 use std::sync::atomic::Ordering::SeqCst;
 use std::sync::{Condvar, Mutex, MutexGuard, Wait};
 use std::time::{Clock, Duration, Instant};
-use tuning::{LOOKS, REFILL_BYTES, REFILL_FRAMES, REFILL_MILLIS};
-
-/// In which row a parcel waits, and whether it is a client's request.
-#[derive(Clone, Copy)]
-pub(crate) struct Row {
-    pub(crate) number: usize,
-    pub(crate) is_request: bool,
-}
+use tuning::{LINK_SHARE_BYTES, LOOKS, REFILL_BYTES, REFILL_FRAMES, REFILL_MILLIS};
 
 /// A parcel that waits.
 #[derive(Drop)]
@@ -93,6 +87,13 @@ impl Inside {
         self.queue.put(number, size, Handed { is_request, parcel })?;
         self.waiting = waiting;
         Ok(waiting == 1 || self.queue.is_ready_at(number))
+    }
+
+    /// Whether a row is no more than half full.
+    fn has_room(&self, row: usize) -> bool
+        ensures { result ≡ nat_le (waiting_in self.now.queue.rows row) (LINK_SHARE_BYTES / 2) }
+    {
+        self.queue.waiting_in(row) <= LINK_SHARE_BYTES / 2
     }
 
     /// Whether who asks next is told to end.
@@ -214,21 +215,26 @@ fn until_refill<R: Clock>(rt: &R, refilled: Option<Instant>) -> Option<Duration>
 /// taken from one than its allowance.
 #[derive(Drop)]
 pub struct Inbox {
+    config: Config,
+    /// From how many fronts requests come.
+    fronts: u8,
     inside: Mutex<Inside>,
     bell: Condvar,
     /// How often something came that may be taken. A worker looks at it for a while before it sleeps.
     arrivals: AtomicU64,
     /// How many requests wait.
     requests: AtomicU64,
+    /// How many requests were dealt out to rows.
+    dealt: AtomicU64,
 }
 
 impl Inbox {
-    /// An inbox of so many rows, in which nothing waits.
-    pub(crate) fn new(alloc: Global, config: Config, rows: usize) -> Result<Inbox, AllocError>
-        requires { 0 < rows }
-    {
-        let queue = FairQueue::new(alloc, rows, allowance(config))?;
+    /// An inbox in which nothing waits, for requests from so many fronts.
+    pub fn new(alloc: Global, config: Config, fronts: u8) -> Result<Inbox, AllocError> {
+        let queue = FairQueue::new(alloc, row_count(config), allowance(config))?;
         Ok(Inbox {
+            config,
+            fronts,
             inside: Mutex::new(Inside {
                 queue,
                 waiting: 0,
@@ -242,12 +248,33 @@ impl Inbox {
             bell: Condvar::new(),
             arrivals: AtomicU64::new(0),
             requests: AtomicU64::new(0),
+            dealt: AtomicU64::new(0),
         })
     }
 
     /// How many requests wait.
     pub(crate) fn requests(&self) -> u64 {
         self.requests.load(SeqCst)
+    }
+
+    /// Whether a sender's row is no more than half full, so that what one read of a connection brings finds room there.
+    pub fn has_room<R: Wait>(&self, rt: &R, from: &Sender) -> bool {
+        let first = match *from {
+            Sender::Replica(from) => replica_row(from),
+            Sender::Front(front) => request_row(self.config, front, self.fronts, 0),
+        };
+        self.inside.lock(rt).has_room(first.number)
+    }
+
+    /// The row of a sender's frames.
+    fn row_of(&self, from: &Sender) -> Row {
+        match *from {
+            Sender::Replica(from) => replica_row(from),
+            Sender::Front(front) => {
+                let dealt = self.dealt.fetch_add(1, SeqCst);
+                request_row(self.config, front, self.fronts, dealt)
+            }
+        }
     }
 
     /// Something came that may be taken. A worker that sleeps is woken, where none is on its way already: to ring
@@ -262,13 +289,15 @@ impl Inbox {
         }
     }
 
-    /// Hands in a frame, which gets its number here.
-    pub(crate) fn hand_in_frame<R: Wait>(
+    /// Hands in a frame, which gets its number here. `Full` where it doesn't fit in its sender's share, `Memory` where memory was
+    /// refused; then it is lost.
+    pub fn hand_in_frame<R: Wait>(
         &self,
         rt: &R,
-        row: Row,
+        from: &Sender,
         bytes: Bytes,
     ) -> Result<(), Refusal> {
+        let row = self.row_of(from);
         let mut inside = self.inside.lock(rt);
         let number = inside.next_number();
         let wakes = inside.add(row, Parcel::Frame { number, bytes })?;
@@ -281,8 +310,8 @@ impl Inbox {
         Ok(())
     }
 
-    /// Hands in another parcel, which is no request.
-    pub(crate) fn hand_in<R: Wait>(&self, rt: &R, row: Row, parcel: Parcel) -> Result<(), Refusal> {
+    /// Puts a parcel that is no request into a row.
+    fn put<R: Wait>(&self, rt: &R, row: Row, parcel: Parcel) -> Result<(), Refusal> {
         let mut inside = self.inside.lock(rt);
         if inside.add(row, parcel)? {
             self.tell(inside);
@@ -290,8 +319,55 @@ impl Inbox {
         Ok(())
     }
 
+    /// Hands in what a replica says that is no frame. It refuses as `hand_in_frame` does.
+    pub fn hand_in<R: Wait>(&self, rt: &R, from: ReplicaId, parcel: Parcel) -> Result<(), Refusal> {
+        self.put(rt, replica_row(from), parcel)
+    }
+
+    /// Hands in what a replica answers to this one's question. It refuses as `hand_in_frame` does.
+    pub fn hand_in_answer<R: Wait>(
+        &self,
+        rt: &R,
+        from: ReplicaId,
+        answer: Answer,
+    ) -> Result<(), Refusal> {
+        let row = answer_row(self.config, from);
+        self.put(rt, row, Parcel::Answered { from, answer })
+    }
+
+    /// Hands in what the replica's clock tells it.
+    fn hand_in_prompt<R: Wait>(&self, rt: &R, prompt: Parcel) -> Result<(), Refusal> {
+        self.put(rt, clock_row(self.config), prompt)
+    }
+
+    /// Gives the replica leave to make a proposal.
+    pub fn beat<R: Wait>(&self, rt: &R) -> Result<(), Refusal> {
+        self.hand_in_prompt(rt, Parcel::Beat)
+    }
+
+    /// Tells the replica that this view has lasted too long. It makes no step by that where it has left the view by the time
+    /// that a worker takes it.
+    pub fn timeout<R: Wait>(&self, rt: &R, view: View) -> Result<(), Refusal> {
+        self.hand_in_prompt(rt, Parcel::Timeout(view))
+    }
+
+    /// Has a replica that is far behind look whether it asks.
+    pub fn catch_up<R: Wait>(&self, rt: &R) -> Result<(), Refusal> {
+        self.hand_in_prompt(rt, Parcel::CatchUp)
+    }
+
+    /// Gives the replica leave to begin anew as leader.
+    pub fn lead<R: Wait>(&self, rt: &R, base: Base) -> Result<(), Refusal> {
+        self.hand_in_prompt(rt, Parcel::Lead(base))
+    }
+
+    /// Gives the replica leave to prune its tree up to a height.
+    pub fn prune<R: Wait>(&self, rt: &R, height: Height) -> Result<(), Refusal> {
+        self.hand_in_prompt(rt, Parcel::Prune(height.0))
+    }
+
     /// All workers end, however many there are, once all was taken that was handed in before. It takes no memory.
-    pub(crate) fn stop<R: Wait>(&self, rt: &R) {
+    pub fn stop<R: Wait>(&self, rt: &R) {
         self.inside.lock(rt).stop();
         self.arrivals.fetch_add(1, SeqCst);
         self.bell.notify_all();

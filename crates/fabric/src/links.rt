@@ -1,27 +1,30 @@
 //! The links of all parties: what goes to whom.
 
-ghost use Rattle.std.specs.Prelude.{◌≡◌, ◌+◌, ◌<◌, ◌≤◌, ◌⊎◌, IfOk, OnErr, false, true, vec_len};
+ghost use Rattle.std.specs.Prelude.{◌≡◌, ◌⊎◌, IfOk, OnErr, vec_len};
 ghost use Rattle.std.specs.Prelude.{count_by, nat_lt};
 ghost use Rattle.ids.specs.Sizes.{replicas};
 ghost use Rattle.tuning.specs.declared.clients.TheConstants.{CLIENT_CROWD};
 ghost use Rattle.fabric.specs.Parcels.{is_request};
 
-use crate::client_end::{ClientEnd, ClientStart, NotTold, client_link};
-use crate::inbox::{Inbox, Row};
-use crate::parcel::{Answer, Base, Parcel};
+use crate::client_end::{ClientEnd, NotTold};
+use crate::client_links::{ClientLinks, counters};
+use crate::inbox::Inbox;
+use crate::parcel::{Answer, Parcel};
+use crate::post::Post;
 use crate::replica_set::ReplicaSet;
+use crate::rows::Sender;
 use bytes::Bytes;
 use catching_up::Question;
 use fair_queue::Refusal;
 use frames_view::version;
-use ids::{ClientId, Config, Fault, Height, Kind, MOST_REPLICAS, ReplicaId, View};
+use ids::{ClientId, Config, Fault, Kind, MOST_REPLICAS, ReplicaId};
 use signed_frames::To;
 use std::alloc::{AllocError, Global};
 use std::marker::Model;
 use std::sync::atomic::AtomicU64;
 use std::sync::atomic::Ordering::SeqCst;
 use std::sync::{Arc, Wait};
-use tuning::{CLIENT_CROWD, CLIENT_ROWS};
+use tuning::CLIENT_CROWD;
 
 /// The ends at which parcels are handed in, of the links of all parties. Threads share them by reference.
 ///
@@ -32,9 +35,7 @@ use tuning::{CLIENT_CROWD, CLIENT_ROWS};
 pub struct Links {
     config: Config,
     replicas: Vec<Arc<Inbox>>,
-    clients: Vec<ClientStart>,
-    /// How many frames of clients were dealt out to rows.
-    dealt: AtomicU64,
+    clients: ClientLinks,
     /// How many frames couldn't be handed in.
     lost: AtomicU64,
     /// How many frames of each replica didn't fit in its share.
@@ -71,38 +72,10 @@ fn inboxes(alloc: Global, config: Config) -> Result<(Vec<Arc<Inbox>>, Vec<Arc<In
     let mut links = Vec::with_capacity(alloc, count)?;
     let mut ends = Vec::with_capacity(alloc, count)?;
     for _ in 0..count {
-        let inbox = Inbox::new(alloc, config, count + 1 + CLIENT_ROWS + count)?;
+        let inbox = Inbox::new(alloc, config, 1)?;
         let inbox = Arc::new(alloc, inbox)?;
         ends.push_reserved(Arc::try_clone(&inbox)?);
         links.push_reserved(inbox);
-    }
-    Ok((links, ends))
-}
-
-/// So many counters at 0.
-fn counters(alloc: Global, count: usize) -> Result<Vec<AtomicU64>, AllocError> {
-    let mut counters = Vec::new(alloc);
-    for _ in 0..count {
-        counters.push(AtomicU64::new(0))?;
-    }
-    Ok(counters)
-}
-
-/// The links of all clients.
-fn client_links(
-    alloc: Global,
-    config: Config,
-) -> Result<(Vec<ClientStart>, Vec<ClientEnd>), AllocError>
-    ensures { IfOk result (λ r. (vec_len r.0 ≡ config.clients) × (vec_len r.1 ≡ config.clients)) }
-{
-    let count = usize::from(config.clients());
-    let mut links = Vec::with_capacity(alloc, count)?;
-    let mut ends = Vec::with_capacity(alloc, count)?;
-    for _ in 0..count {
-        let counters = counters(alloc, usize::from(config.n()))?;
-        let (start, end) = client_link(alloc, counters, config.faults())?;
-        links.push_reserved(start);
-        ends.push_reserved(end);
     }
     Ok((links, ends))
 }
@@ -116,7 +89,7 @@ fn last_bytes(frame: &[u8]) -> u64 {
 }
 
 /// Whether a frame is a client's request, by its kind.
-pub(crate) fn is_request(frame: &[u8]) -> bool
+pub fn is_request(frame: &[u8]) -> bool
     ensures { result ≡ is_request frame.now }
 {
     let place = if version(frame) == Some(2) { 1 } else { 0 };
@@ -147,12 +120,16 @@ impl Links {
         let repeated = counters(alloc, count)?;
         let last_turned_away = counters(alloc, count * count)?;
         let (replicas, replica_ends) = inboxes(alloc, config)?;
-        let (clients, client_ends) = client_links(alloc, config)?;
+        let (clients, client_ends) = ClientLinks::new(
+            alloc,
+            config,
+            ClientId(0),
+            config.clients(),
+        )?;
         let links = Links {
             config,
             replicas,
             clients,
-            dealt: AtomicU64::new(0),
             lost: AtomicU64::new(0),
             turned_away,
             repeated,
@@ -201,26 +178,32 @@ impl Links {
         self.lost.fetch_add(1, SeqCst);
     }
 
-    /// A frame of this row didn't fit in its share.
-    fn turn_away(&self, row: Row) {
+    /// A frame of this sender didn't fit in its share.
+    fn turn_away(&self, from: &Sender) {
         self.lose();
-        if let Some(count) = self.turned_away.get(row.number) {
+        let Sender::Replica(from) = *from else {
+            return;
+        };
+        if let Some(count) = self.turned_away.get(usize::from(from.0)) {
             count.fetch_add(1, SeqCst);
         }
     }
 
     /// A replica's frame that ends so didn't fit at a replica's link. Whether it is like the last such frame is noted.
-    fn compare(&self, row: Row, to: ReplicaId, ends: u64) {
-        let n = usize::from(self.config.n());
-        if row.number >= n {
+    fn compare(&self, from: &Sender, to: ReplicaId, ends: u64) {
+        let Sender::Replica(from) = *from else {
+            return;
+        };
+        let (sender, n) = (usize::from(from.0), usize::from(self.config.n()));
+        if sender >= n {
             return;
         }
-        let place = row.number * n + usize::from(to.0);
+        let place = sender * n + usize::from(to.0);
         let is_same = match self.last_turned_away.get(place) {
             Some(last) => last.swap(ends, SeqCst) == ends,
             None => false,
         };
-        if let (true, Some(count)) = (is_same, self.repeated.get(row.number)) {
+        if let (true, Some(count)) = (is_same, self.repeated.get(sender)) {
             count.fetch_add(1, SeqCst);
         }
     }
@@ -235,82 +218,32 @@ impl Links {
         are_crowded(&counts, self.config.faults())
     }
 
-    /// The row of a replica's frames.
-    fn replica_row(&self, from: ReplicaId) -> Row
-        ensures { result ≡ record { number = from; is_request = false } }
-    {
-        Row {
-            number: usize::from(from.0),
-            is_request: false,
-        }
-    }
-
-    /// The row of what a replica's clock tells it.
-    fn clock_row(&self) -> Row
-        ensures { result ≡ record { number = replicas self.now; is_request = false } }
-    {
-        Row {
-            number: usize::from(self.config.n()),
-            is_request: false,
-        }
-    }
-
-    /// The row of the next request.
-    fn client_row(&self) -> Row
-        ensures above { replicas self.now < result.number }
-        ensures most { result.number ≤ replicas self.now + CLIENT_ROWS }
-        ensures request { result.is_request ≡ true }
-    {
-        let place = self.dealt.fetch_add(1, SeqCst) as usize % CLIENT_ROWS;
-        Row {
-            number: usize::from(self.config.n()) + 1 + place,
-            is_request: true,
-        }
-    }
-
-    /// The row of what a replica answers, which holds nothing else of it: its frames don't wait behind that.
-    fn answer_row(&self, from: ReplicaId) -> Row
-        ensures { result ≡ record { number = replicas self.now + 1 + CLIENT_ROWS + from; is_request = false } }
-    {
-        Row {
-            number: usize::from(self.config.n()) + 1 + CLIENT_ROWS + usize::from(from.0),
-            is_request: false,
-        }
-    }
-
     /// What a call at a replica's link came to.
-    fn handed(&self, row: Row, answer: Result<(), Refusal>) -> Result<(), Fault>
+    fn handed(&self, from: &Sender, answer: Result<(), Refusal>) -> Result<(), Fault>
         ensures { OnErr result (result ≡ Err Fault.Memory) }
     {
         match answer {
             Ok(()) => Ok(()),
             Err(Refusal::Memory) => Err(Fault::Memory),
             Err(Refusal::Full) => {
-                self.turn_away(row);
+                self.turn_away(from);
                 Ok(())
             }
         }
     }
 
-    /// Hands in at a replica's link what its clock tells it.
-    fn hand_in<R: Wait>(&self, rt: &R, to: ReplicaId, parcel: Parcel) -> Result<(), Fault>
-        ensures { OnErr result ((result ≡ Err Fault.Memory) ⊎ (result ≡ Err Fault.NoSuchParty)) }
-    {
-        self.hand_in_row(rt, self.clock_row(), to, parcel)
-    }
-
-    /// Hands in at a replica's link a parcel of this row, which is no frame.
-    fn hand_in_row<R: Wait>(
+    /// Hands in at a replica's link what another says that is no frame.
+    fn hand_in<R: Wait>(
         &self,
         rt: &R,
-        row: Row,
+        from: ReplicaId,
         to: ReplicaId,
         parcel: Parcel,
     ) -> Result<(), Fault>
         ensures { OnErr result ((result ≡ Err Fault.Memory) ⊎ (result ≡ Err Fault.NoSuchParty)) }
     {
         match self.replicas.get(usize::from(to.0)) {
-            Some(inbox) => self.handed(row, inbox.hand_in(rt, row, parcel)),
+            Some(inbox) => self.handed(&Sender::Replica(from), inbox.hand_in(rt, from, parcel)),
             None => Err(Fault::NoSuchParty),
         }
     }
@@ -319,7 +252,7 @@ impl Links {
     fn hand_in_frame<R: Wait>(
         &self,
         rt: &R,
-        row: Row,
+        from: &Sender,
         to: ReplicaId,
         frame: Bytes,
     ) -> Result<(), Fault>
@@ -329,45 +262,39 @@ impl Links {
             return Err(Fault::NoSuchParty);
         };
         let ends = last_bytes(frame.as_slice());
-        let answer = inbox.hand_in_frame(rt, row, frame);
+        let answer = inbox.hand_in_frame(rt, from, frame);
         if matches!(answer, Err(Refusal::Full)) {
-            self.compare(row, to, ends);
+            self.compare(from, to, ends);
         }
-        self.handed(row, answer)
+        self.handed(from, answer)
     }
 
     /// Hands in one more copy of a frame at a replica's link. Its bytes are shared.
     fn share_with<R: Wait>(
         &self,
         rt: &R,
-        row: Row,
+        from: &Sender,
         to: ReplicaId,
         frame: &Bytes,
     ) -> Result<(), Fault>
         ensures { OnErr result ((result ≡ Err Fault.Memory) ⊎ (result ≡ Err Fault.NoSuchParty)) }
     {
         let copy = frame.clone()?;
-        self.hand_in_frame(rt, row, to, copy)
+        self.hand_in_frame(rt, from, to, copy)
     }
 
     /// Hands in a frame at each replica's link, but its sender's, where a replica sent it. One that can't take it
     /// doesn't keep it from the others.
-    fn share_with_all<R: Wait>(
-        &self,
-        rt: &R,
-        row: Row,
-        from: Option<ReplicaId>,
-        frame: Bytes,
-    ) -> Result<(), Fault>
+    fn share_with_all<R: Wait>(&self, rt: &R, from: &Sender, frame: Bytes) -> Result<(), Fault>
         ensures { OnErr result ((result ≡ Err Fault.Memory) ⊎ (result ≡ Err Fault.NoSuchParty)) }
     {
         let mut all = Ok(());
         for number in 0..self.config.n() {
             let to = ReplicaId(number);
-            if from == Some(to) {
+            if *from == Sender::Replica(to) {
                 continue;
             }
-            if let Err(fault) = self.share_with(rt, row, to, &frame) {
+            if let Err(fault) = self.share_with(rt, from, to, &frame) {
                 all = Err(fault);
             }
         }
@@ -378,14 +305,14 @@ impl Links {
     pub fn to_replica<R: Wait>(&self, rt: &R, to: ReplicaId, frame: Bytes) -> Result<(), Fault>
         ensures { OnErr result ((result ≡ Err Fault.Memory) ⊎ (result ≡ Err Fault.NoSuchParty)) }
     {
-        self.hand_in_frame(rt, self.client_row(), to, frame)
+        self.hand_in_frame(rt, &Sender::Front(0), to, frame)
     }
 
     /// Hands in a client's frame at each replica's link.
     pub fn to_all<R: Wait>(&self, rt: &R, frame: Bytes) -> Result<(), Fault>
         ensures { OnErr result ((result ≡ Err Fault.Memory) ⊎ (result ≡ Err Fault.NoSuchParty)) }
     {
-        self.share_with_all(rt, self.client_row(), None, frame)
+        self.share_with_all(rt, &Sender::Front(0), frame)
     }
 
     /// Hands in a frame of a replica where it goes. What goes to itself goes over no link. A request is lost: it comes over
@@ -399,18 +326,18 @@ impl Links {
     ) -> Result<(), Fault>
         ensures { OnErr result ((result ≡ Err Fault.Memory) ⊎ (result ≡ Err Fault.NoSuchParty)) }
     {
-        let row = self.replica_row(from);
+        let sender = &Sender::Replica(from);
         if is_request(frame.as_slice()) {
-            self.turn_away(row);
+            self.turn_away(sender);
             return Ok(());
         }
         match to {
-            To::All => self.share_with_all(rt, row, Some(from), frame),
+            To::All => self.share_with_all(rt, sender, frame),
             To::Replica(to) => {
                 if to == from {
                     return Ok(());
                 }
-                self.hand_in_frame(rt, row, to, frame)
+                self.hand_in_frame(rt, sender, to, frame)
             }
             To::Client(client) => self.to_client(rt, from, client, frame),
         }
@@ -430,7 +357,7 @@ impl Links {
             return self.pass_to_all(rt, from, &frame);
         };
         let parcel = Parcel::Passed { from, bytes: frame };
-        self.hand_in_row(rt, self.replica_row(from), to, parcel)
+        self.hand_in(rt, from, to, parcel)
     }
 
     /// Hands it in at all others' links. One that can't take it doesn't keep it from the others.
@@ -445,37 +372,15 @@ impl Links {
             }
             let bytes = frame.clone()?;
             let parcel = Parcel::Passed { from, bytes };
-            if let Err(fault) = self.hand_in_row(rt, self.replica_row(from), to, parcel) {
+            if let Err(fault) = self.hand_in(rt, from, to, parcel) {
                 all = Err(fault);
             }
         }
         all
     }
 
-    /// Tells a replica that votes of these in a certificate of it weren't right for this one.
-    pub fn doubt<R: Wait>(
-        &self,
-        rt: &R,
-        from: ReplicaId,
-        to: ReplicaId,
-        voters: ReplicaSet,
-    ) -> Result<(), Fault>
-        ensures { OnErr result ((result ≡ Err Fault.Memory) ⊎ (result ≡ Err Fault.NoSuchParty)) }
-    {
-        let parcel = Parcel::Doubted { from, voters };
-        self.hand_in_row(rt, self.replica_row(from), to, parcel)
-    }
-
-    /// Asks a replica for what it recorded.
-    pub fn ask<R: Wait>(&self, rt: &R, from: ReplicaId, question: Question) -> Result<(), Fault>
-        ensures { OnErr result ((result ≡ Err Fault.Memory) ⊎ (result ≡ Err Fault.NoSuchParty)) }
-    {
-        let (row, to) = (self.replica_row(from), question.to);
-        self.hand_in_row(rt, row, to, Parcel::Asked { from, question })
-    }
-
-    /// Answers a replica that asked this one.
-    pub fn answer<R: Wait>(
+    /// Hands in at a replica's link what another answers to its question.
+    fn hand_in_answer<R: Wait>(
         &self,
         rt: &R,
         from: ReplicaId,
@@ -484,8 +389,20 @@ impl Links {
     ) -> Result<(), Fault>
         ensures { OnErr result ((result ≡ Err Fault.Memory) ⊎ (result ≡ Err Fault.NoSuchParty)) }
     {
-        let parcel = Parcel::Answered(answer);
-        self.hand_in_row(rt, self.answer_row(from), to, parcel)
+        match self.replicas.get(usize::from(to.0)) {
+            Some(inbox) => {
+                let handed = inbox.hand_in_answer(rt, from, answer);
+                self.handed(&Sender::Replica(from), handed)
+            }
+            None => Err(Fault::NoSuchParty),
+        }
+    }
+
+    /// Counts what couldn't be handed in.
+    fn count(&self, answer: Result<(), Fault>) {
+        if answer.is_err() {
+            self.lose();
+        }
     }
 
     /// Hands in a frame of a replica at a client's link.
@@ -498,67 +415,36 @@ impl Links {
     ) -> Result<(), Fault>
         ensures { OnErr result ((result ≡ Err Fault.Memory) ⊎ (result ≡ Err Fault.NoSuchParty)) }
     {
-        let Some(link) = self.clients.get(usize::from(to.0)) else {
-            return Err(Fault::NoSuchParty);
-        };
-        match link.hand_in(rt, from, frame) {
+        match self.clients.hand_in(rt, from, to, frame) {
             Ok(()) => Ok(()),
             Err(NotTold::Memory) => Err(Fault::Memory),
-            Err(NotTold::Closed) => Err(Fault::NoSuchParty),
+            Err(NotTold::NoSuchClient | NotTold::Closed) => Err(Fault::NoSuchParty),
             Err(NotTold::Full) => {
-                self.turn_away(self.replica_row(from));
+                self.turn_away(&Sender::Replica(from));
                 Ok(())
             }
         }
     }
+}
 
-    /// Gives a replica leave to make a proposal.
-    pub fn beat<R: Wait>(&self, rt: &R, to: ReplicaId) -> Result<(), Fault>
-        ensures { OnErr result ((result ≡ Err Fault.Memory) ⊎ (result ≡ Err Fault.NoSuchParty)) }
-    {
-        self.hand_in(rt, to, Parcel::Beat)
+/// What couldn't be handed in counts as lost.
+impl Post for Links {
+    fn config(&self) -> Config {
+        self.config
     }
 
-    /// Tells a replica that this view has lasted too long. It makes no step by that where it has left the view by the
-    /// time that a worker takes it.
-    pub fn timeout<R: Wait>(&self, rt: &R, to: ReplicaId, view: View) -> Result<(), Fault>
-        ensures { OnErr result ((result ≡ Err Fault.Memory) ⊎ (result ≡ Err Fault.NoSuchParty)) }
-    {
-        self.hand_in(rt, to, Parcel::Timeout(view))
+    fn doubt<R: Wait>(&self, rt: &R, from: ReplicaId, to: ReplicaId, voters: ReplicaSet) {
+        let parcel = Parcel::Doubted { from, voters };
+        self.count(self.hand_in(rt, from, to, parcel));
     }
 
-    /// Has a replica that is far behind look whether it asks.
-    pub fn catch_up<R: Wait>(&self, rt: &R, to: ReplicaId) -> Result<(), Fault>
-        ensures { OnErr result ((result ≡ Err Fault.Memory) ⊎ (result ≡ Err Fault.NoSuchParty)) }
-    {
-        self.hand_in(rt, to, Parcel::CatchUp)
+    fn ask<R: Wait>(&self, rt: &R, from: ReplicaId, question: Question) {
+        let to = question.to;
+        let parcel = Parcel::Asked { from, question };
+        self.count(self.hand_in(rt, from, to, parcel));
     }
 
-    /// Gives a replica leave to begin anew as leader.
-    pub fn lead<R: Wait>(&self, rt: &R, to: ReplicaId, base: Base) -> Result<(), Fault>
-        ensures { OnErr result ((result ≡ Err Fault.Memory) ⊎ (result ≡ Err Fault.NoSuchParty)) }
-    {
-        self.hand_in(rt, to, Parcel::Lead(base))
-    }
-
-    /// Gives a replica leave to prune its tree up to a height.
-    pub fn prune<R: Wait>(&self, rt: &R, to: ReplicaId, height: Height) -> Result<(), Fault>
-        ensures { OnErr result ((result ≡ Err Fault.Memory) ⊎ (result ≡ Err Fault.NoSuchParty)) }
-    {
-        self.hand_in(rt, to, Parcel::Prune(height.0))
-    }
-
-    /// Tells a replica's workers to end, all that there are, once they have taken what was handed in before. It
-    /// takes no memory.
-    pub fn stop<R: Wait>(&self, rt: &R, to: ReplicaId) -> Result<(), Fault>
-        ensures { OnErr result (result ≡ Err Fault.NoSuchParty) }
-    {
-        match self.replicas.get(usize::from(to.0)) {
-            Some(inbox) => {
-                inbox.stop(rt);
-                Ok(())
-            }
-            None => Err(Fault::NoSuchParty),
-        }
+    fn answer<R: Wait>(&self, rt: &R, from: ReplicaId, to: ReplicaId, answer: Answer) {
+        self.count(self.hand_in_answer(rt, from, to, answer));
     }
 }

@@ -80,8 +80,11 @@ pub enum Parcel {
         from: ReplicaId,
         question: Question,
     },
-    /// What another replica recorded.
-    Answered(Answer),
+    /// What another replica recorded, if it was asked.
+    Answered {
+        from: ReplicaId,
+        answer: Answer,
+    },
     /// The replica is far behind, and is to look whether it asks.
     CatchUp,
     /// Leave to make a proposal.
@@ -105,7 +108,7 @@ impl Parcel {
     {
         match self {
             Parcel::Frame { bytes, .. } | Parcel::Passed { bytes, .. } => frame_size(bytes),
-            Parcel::Answered(answer) => {
+            Parcel::Answered { answer, .. } => {
                 with_all(with_all(PARCEL_SIZE, &answer.frames), &answer.announced)
             }
             _ => PARCEL_SIZE,

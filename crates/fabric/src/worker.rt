@@ -330,7 +330,9 @@ impl<'a, G: Gate, O: Outgoing + Questioned + Recording> Worker<'a, G, O> {
                 Parcel::Asked { from, question } => {
                     self.out.answer(rt, self.alloc, from, question);
                 }
-                Parcel::Answered(answer) => self.take_answer(rt, steps, &mut share, answer),
+                Parcel::Answered { from, answer } => {
+                    self.take_answer(rt, steps, &mut share, from, answer);
+                }
                 Parcel::CatchUp => self.out.catch_up(rt),
                 Parcel::Beat => self.step(rt, steps, &mut share, Input::Beat),
                 Parcel::Timeout(view) => self.time_out(rt, steps, &mut share, view),

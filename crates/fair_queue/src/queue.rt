@@ -121,6 +121,16 @@ impl<T: Drop> FairQueue<T> {
         self.rows.len()
     }
 
+    /// How much size waits in the row of this number.
+    pub fn waiting_in(&self, number: usize) -> usize
+        ensures { result ≡ waiting_in self.now.rows number }
+    {
+        match self.rows.get(number) {
+            Some(row) => row.waiting(),
+            None => 0,
+        }
+    }
+
     /// Whether something may be taken from the row of this number.
     pub fn is_ready_at(&self, number: usize) -> bool
         ensures { result ≡ ready_at self.now.rows number }

@@ -58,6 +58,13 @@ impl<T: Drop> Row<T> {
         !self.items.is_empty() && self.count_left > 0 && self.size_left > 0
     }
 
+    /// How much size waits.
+    pub(crate) fn waiting(&self) -> usize
+        ensures { result ≡ size_of self.now.items }
+    {
+        self.size
+    }
+
     /// A value more waits, at the end.
     pub(crate) fn put(&mut self, size: usize, value: T) -> Result<(), Refusal>
         ensures put { OnOk result

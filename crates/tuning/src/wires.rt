@@ -30,3 +30,21 @@ pub const WIRE_PIECE_BYTES: usize = 65_536;
 /// Connections of one named address, or of all strangers together, that may be at their handshakes. Fewer: a crowd
 /// drives out a peer of the same address. More: more sockets are held.
 pub const WIRE_PLACES: usize = 32;
+
+/// Bytes of frames that wait for a replica that is away, at most; more is lost. Less: a replica that is away for a moment asks
+/// for more. More: more memory.
+pub const REPLICA_BACKLOG_BYTES: usize = 268_435_456;
+
+/// Bytes of replies that wait for a front; more is lost. Less than what its clients wait for: they ask again.
+pub const FRONT_BACKLOG_BYTES: usize = 16_777_216;
+
+/// Milliseconds between two times that a replica tells the others how far it is. Fewer: more frames. More: clocks see others later.
+pub const TELL_MILLIS: u64 = 20;
+
+/// Numbers that a front marks ahead of those that its clients give. Fewer: the disk is waited for more often. More: nothing but
+/// higher numbers after a restart.
+pub const NUMBERS_AHEAD: u64 = 1_048_576;
+
+/// Milliseconds for which a front that reaches too few replicas takes requests still. Fewer: a moment's cut refuses some. More:
+/// clients wait in vain for longer.
+pub const UNREACHED_MILLIS: u64 = 2000;

@@ -5,7 +5,7 @@ ghost use Rattle.std.specs.Prelude.{⊤};
 use crate::workers::frames;
 use anyhow::{Result, bail};
 use authenticators::ReplicaKeyring;
-use fabric::{Ends, Links, Outgoing, Questioned, Recording, WaitingRoom, Worker};
+use fabric::{Inbox, Links, Outgoing, Questioned, Recording, WaitingRoom, Worker};
 use frames_view::genesis_digest;
 use ids::{Config, Digest, Fault, Kind, ReplicaId};
 use locked_replica::Share;
@@ -80,6 +80,7 @@ fn hand_in<R: Wait>(
     rt: &R,
     alloc: Global,
     links: &Links,
+    inbox: &Inbox,
     votes: [(ReplicaId, Digest); 3],
 ) -> Result<()> {
     for (voter, block) in votes {
@@ -90,20 +91,18 @@ fn hand_in<R: Wait>(
         };
         links.send(rt, voter, sending);
     }
-    Ok(links.stop(rt, ReplicaId(0))?)
+    inbox.stop(rt);
+    Ok(())
 }
 
 /// Lets a worker of replica 0 take what was handed in, and answers whose votes came, in their order.
 fn voters_of<R: Wait + Clock>(
     rt: &R,
     alloc: Global,
-    ends: &Ends,
+    inbox: &Inbox,
     keyring: ReplicaKeyring,
     out: Out,
 ) -> Result<Vec<u8>> {
-    let Some(inbox) = ends.replicas.first() else {
-        bail!("no link of replica 0");
-    };
     let room = WaitingRoom::new(alloc, keyring.config(), 1);
     let keyring = WorkerKeyring::new(keyring);
     let mut sender = Sender {
@@ -125,9 +124,12 @@ fn play<R: Wait + Clock>(
 ) -> Result<String> {
     let keyring = replica_keyring_of(alloc, config, ReplicaId(0))?;
     let (links, ends) = Links::new(alloc, config)?;
-    hand_in(rt, alloc, &links, votes)?;
+    let Some(inbox) = ends.replicas.first() else {
+        bail!("no link of replica 0");
+    };
+    hand_in(rt, alloc, &links, inbox, votes)?;
     let mut text = String::new(alloc);
-    for voter in voters_of(rt, alloc, &ends, keyring, out)? {
+    for voter in voters_of(rt, alloc, inbox, keyring, out)? {
         write!(text, " {voter}")?;
     }
     Ok(text)

@@ -6,7 +6,7 @@ use crate::workers::frames;
 use crate::workers::order::Nowhere;
 use anyhow::{Result, bail};
 use authenticators::ReplicaKeyring;
-use fabric::{Ends, Links, Outgoing, WaitingRoom, Worker};
+use fabric::{Inbox, Links, Outgoing, WaitingRoom, Worker};
 use frames_view::genesis_digest;
 use ids::{Config, Fault, Kind, ReplicaId, View};
 use locked_replica::Share;
@@ -79,28 +79,28 @@ impl Steps for Proposer {
 }
 
 /// Hands in a vote of replica 1 at the link of replica 0, a timeout, and then a stop.
-fn hand_in<R: Wait>(rt: &R, alloc: Global, links: &Links) -> Result<()> {
+fn hand_in<R: Wait>(rt: &R, alloc: Global, links: &Links, inbox: &Inbox) -> Result<()> {
     let sending = Sending {
         to: To::Replica(ReplicaId(0)),
         kind: Kind::Vote,
         frame: frames::vote(alloc, links.config(), ReplicaId(1), &genesis_digest())?,
     };
     links.send(rt, ReplicaId(1), sending);
-    links.timeout(rt, ReplicaId(0), View(0))?;
-    Ok(links.stop(rt, ReplicaId(0))?)
+    if inbox.timeout(rt, View(0)).is_err() {
+        bail!("the timeout is lost");
+    }
+    inbox.stop(rt);
+    Ok(())
 }
 
 /// Lets a worker of replica 0 take what was handed in, and tells how often it had proposed by then.
 fn tell<R: Wait + Clock>(
     rt: &R,
     alloc: Global,
-    ends: &Ends,
+    inbox: &Inbox,
     keyring: ReplicaKeyring,
     proposal: Vec<u8>,
 ) -> Result<String> {
-    let Some(inbox) = ends.replicas.first() else {
-        bail!("no link of replica 0");
-    };
     let room = WaitingRoom::new(alloc, keyring.config(), 1);
     let keyring = WorkerKeyring::new(keyring);
     let mut proposer = Proposer {
@@ -121,6 +121,9 @@ pub(crate) fn play<R: Wait + Clock>(rt: &R, alloc: Global) -> Result<String> {
     let keyring = replica_keyring_of(alloc, config, ReplicaId(0))?;
     let proposal = frames::proposal_bytes(alloc, config)?;
     let (links, ends) = Links::new(alloc, config)?;
-    hand_in(rt, alloc, &links)?;
-    tell(rt, alloc, &ends, keyring, proposal)
+    let Some(inbox) = ends.replicas.first() else {
+        bail!("no link of replica 0");
+    };
+    hand_in(rt, alloc, &links, inbox)?;
+    tell(rt, alloc, inbox, keyring, proposal)
 }

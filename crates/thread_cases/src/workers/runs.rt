@@ -88,7 +88,7 @@ fn is_over<R: Wait, G>(
         Until::Inputs(wanted) => stage.seen.inputs() >= wanted,
         Until::Executed => {
             if k % 50 == 49 {
-                let _told = stage.links.beat(rt, ReplicaId(0));
+                let _told = stage.ends.replicas.first().map(|inbox| inbox.beat(rt));
             }
             !executed_by(watcher).contains(&0)
         }
@@ -112,13 +112,13 @@ fn drive<R: Wait + Clock, G>(
         }
         thread::sleep(rt, Duration::from_millis(20));
     }
-    stop_all(rt, stage.links);
+    stop_all(rt, stage.ends);
 }
 
 /// Tells all workers to stop.
-fn stop_all<R: Wait>(rt: &R, links: &Links) {
-    for number in 0..links.config().n() {
-        let _told = links.stop(rt, ReplicaId(number));
+fn stop_all<R: Wait>(rt: &R, ends: &Ends) {
+    for inbox in &ends.replicas {
+        inbox.stop(rt);
     }
 }
 
@@ -176,7 +176,7 @@ fn work_all<R: Threads + Wait + Clock + Sync, G: Gate + Sync>(
             let one = scope.spawn(move || run_worker(rt, stage, station));
             let two = scope.spawn(move || run_worker(rt, stage, station));
             if one.is_err() || two.is_err() {
-                stop_all(rt, stage.links);
+                stop_all(rt, stage.ends);
                 return Err(Fault::Memory);
             }
         }

@@ -19,11 +19,14 @@ use turns::Open;
 const VIEWS: [u64; 5] = [0, 0, 7, 1, 0];
 
 /// Hands in the timeouts at the link of replica 0, and then a stop.
-fn hand_in<R: Wait>(rt: &R, links: &Links) -> Result<()> {
+fn hand_in<R: Wait>(rt: &R, inbox: &Inbox) -> Result<()> {
     for view in VIEWS {
-        links.timeout(rt, ReplicaId(0), View(view))?;
+        if inbox.timeout(rt, View(view)).is_err() {
+            bail!("a timeout is lost");
+        }
     }
-    Ok(links.stop(rt, ReplicaId(0))?)
+    inbox.stop(rt);
+    Ok(())
 }
 
 /// Works at a station with this share until it is told to stop.
@@ -79,9 +82,9 @@ fn play_at<R: Wait + Clock>(
 pub(crate) fn play<R: Wait + Clock + RandomSource>(rt: &R, alloc: Global) -> Result<String> {
     let hasher = RandomState::new(rt)?;
     let (links, ends) = Links::new(alloc, Config::new(1, 2)?)?;
-    hand_in(rt, &links)?;
-    match ends.replicas.first() {
-        Some(inbox) => play_at(rt, alloc, &links, inbox, hasher),
-        None => bail!("no link of replica 0"),
-    }
+    let Some(inbox) = ends.replicas.first() else {
+        bail!("no link of replica 0");
+    };
+    hand_in(rt, inbox)?;
+    play_at(rt, alloc, &links, inbox, hasher)
 }
