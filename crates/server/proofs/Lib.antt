@@ -1,7 +1,3 @@
 mod Filling
 mod Lending
-pub mod Sets
-mod Lies
 mod Numbers
-mod Sharing
-mod Doubting

@@ -4,14 +4,13 @@ ghost use Rattle.std.specs.Prelude.{◌≡◌, ◌<◌, ◌≤◌, ◌-◌, ◌�
 ghost use Rattle.ids.specs.declared.fault.Fault.TheVariants.{TooFew};
 ghost use Rattle.ids.specs.declared.limits.TheConstants.{MOST_REPLICAS};
 ghost use Rattle.server.specs.Ends.{IsEndAudit, IsEndOf, IsAudited, AreFew, all_of};
-ghost use Rattle.server.specs.Workers.{liar_count};
+ghost use Rattle.station.specs.Workers.{liar_count};
 
 use crate::judging::{count_whole, judge_shown, judge_whole};
-use crate::stations::Station;
-use crate::terms::Terms;
 use audit::{Verdict, WindowVerdict};
 use ids::{Fault, MOST_REPLICAS};
 use locked_replica::Kept;
+use station::{Station, Terms};
 
 /// Room for the replicas of all stations, taken before a thread begins.
 pub(crate) type Room<'a> = Vec<Kept<'a>>;

@@ -3,27 +3,17 @@
 ghost use Rattle.std.specs.Prelude.{◌≡◌, ◌&&◌, ◌==◌};
 ghost use Rattle.clock.specs.Pruning as pruning;
 
-use crate::stations::Station;
 use catching_up::is_beyond;
 use clock::lacks_next;
 use ids::{Height, MOST_REPLICAS, ReplicaId};
 use log::{Log, info, warn};
+use station::{Progress, Station};
 use std::sync::Wait;
 use tuning::{BEHIND_TOLD_SECONDS, VAIN_SECONDS};
 
-/// How far a replica has executed, and up to where it has forgotten.
-#[derive(Clone, Copy)]
-pub(crate) struct Reach {
-    pub(crate) height: Height,
-    pub(crate) horizon: Height,
-    pub(crate) goes_on: bool,
-    /// Whether it is far behind, and asks others for what they recorded.
-    pub(crate) is_away: bool,
-}
-
 /// Whether a replica has executed nothing since it had come to a height, and lacks the next block where the
 /// others have this horizon.
-fn is_stuck(reach: Reach, before: Height, horizon: Height) -> bool
+fn is_stuck(reach: Progress, before: Height, horizon: Height) -> bool
     ensures { result
         ≡ (reach.goes_on && (reach.height == before) && pruning.lacks_next horizon reach.height) }
 {
@@ -36,7 +26,7 @@ fn lowest_horizon<R: Wait>(rt: &R, stations: &[Station<'_>], but: ReplicaId) -> 
     let mut lowest = Height(u64::MAX);
     for station in stations {
         if station.number() != but {
-            lowest = Height(lowest.0.min(station.reach(rt).horizon.0));
+            lowest = Height(lowest.0.min(station.progress(rt).horizon.0));
         }
     }
     lowest
@@ -47,7 +37,7 @@ fn recorded<R: Wait>(rt: &R, stations: &[Station<'_>], but: ReplicaId) -> [Heigh
     let mut recorded = [Height(u64::MAX); MOST_REPLICAS];
     for (lowest, station) in recorded.iter_mut().zip(stations) {
         if station.number() != but {
-            *lowest = station.recorder().lowest(rt);
+            *lowest = station.recorded(rt);
         }
     }
     recorded
@@ -110,7 +100,7 @@ impl Laggards {
 }
 
 /// How a replica gets on that has been still for so many seconds, where nobody keeps what it needs, or some do.
-fn way_of(reach: Reach, is_stuck: bool, still: u64) -> Way {
+fn way_of(reach: Progress, is_stuck: bool, still: u64) -> Way {
     if is_stuck {
         Way::Stuck
     } else if !reach.is_away {
@@ -131,7 +121,7 @@ fn look_at<R: Wait + Log>(
 ) -> Seen {
     let number = station.number();
     let horizon = lowest_horizon(rt, stations, number);
-    let reach = station.reach(rt);
+    let reach = station.progress(rt);
     let is_still = reach.is_away && reach.height == before.height;
     let still = if is_still {
         before.still.saturating_add(1)
@@ -160,7 +150,7 @@ fn look_at<R: Wait + Log>(
 fn tell<R: Log>(rt: &R, station: &Station<'_>, before: Seen, now: Seen) {
     let number = station.number().0;
     if now.way == Way::CatchesUp && before.away % BEHIND_TOLD_SECONDS == 0 {
-        let foremost = station.comeback().foremost();
+        let foremost = station.foremost();
         let behind = foremost.0.saturating_sub(now.height.0);
         let rate = now.height.0.saturating_sub(before.height.0);
         info!(rt; "replica {number} is {behind} heights behind, and catches up, {rate} a second");

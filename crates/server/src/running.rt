@@ -7,18 +7,18 @@ ghost use Rattle.ids.specs.declared.fault.Fault.TheVariants.{AcceptFailed, Memor
 ghost use Rattle.marks.specs.Eyes.{first_eye, first_eyes};
 ghost use Rattle.server.specs.Ends.{IsEnd, IsAudited, IsNoRun};
 
-use crate::client_seat::{ClientSeat, seats};
+use crate::client_seat::seats;
 use crate::ending::{EndAudit, judge_by_terms};
+use crate::local::Local;
 use crate::roll::Roll;
-use crate::stations::{Station, run_worker, stations, watch};
-use crate::terms::Terms;
 use crate::watching::Board;
-use crate::worker::WorkerStart;
+use client_seats::ClientSeat;
 use fabric::{ClientEnd, Ends, Inbox, Links};
-use ids::{Fault, ReplicaId};
+use ids::Fault;
 use key_file::PairKeys;
 use log::{Log, warn};
 use marks::{Eye, Marks, Watcher};
+use station::{Sights, Station, Terms, WorkerStart, run_worker, stations, watch};
 use std::net::TcpListener;
 use std::sync::atomic::AtomicBool;
 use std::sync::atomic::Ordering::SeqCst;
@@ -39,9 +39,9 @@ pub struct Ended {
 }
 
 /// Tells the workers of all replicas to end.
-fn stop_all<R: Wait>(rt: &R, links: &Links) {
-    for number in 0..links.config().n() {
-        let _ = links.stop(rt, ReplicaId(number));
+fn stop_all<R: Wait>(rt: &R, stations: &[Station<'_>]) {
+    for station in stations {
+        station.stop(rt);
     }
 }
 
@@ -50,12 +50,12 @@ fn stop_all<R: Wait>(rt: &R, links: &Links) {
 struct Deployment<'a, S> {
     listener: &'a TcpListener,
     closer: Closer,
-    links: Arc<Links>,
-    roll: Arc<Roll>,
+    local: Arc<Local>,
+    sights: Sights,
     seats: Seats<S>,
 }
 
-impl<'a, R: Wait + Clock + AllocGlobal + Clone + Drop> Deployment<'a, ClientSeat<R>> {
+impl<'a, R: Wait + Clock + AllocGlobal + Clone + Drop> Deployment<'a, ClientSeat<R, Local>> {
     /// A deployment over these links, with a seat for each client at the end where its replies come out. So many clients
     /// lie.
     fn new(
@@ -65,20 +65,21 @@ impl<'a, R: Wait + Clock + AllocGlobal + Clone + Drop> Deployment<'a, ClientSeat
         links: Links,
         clients: Vec<ClientEnd>,
         liar_clients: u8,
-    ) -> Result<Deployment<'a, ClientSeat<R>>, Fault>
+    ) -> Result<Deployment<'a, ClientSeat<R, Local>>, Fault>
         ensures { OnErr result
             ((result ≡ Err AcceptFailed) ⊎ (result ≡ Err Memory) ⊎ (result ≡ Err NoSuchParty)) }
     {
         let alloc = rt.alloc();
         let closer = Closer::new(listener)?;
-        let links = Arc::new(alloc, links)?;
-        let roll = Arc::new(alloc, Roll::new(alloc, keys.config())?)?;
-        let seats = seats(rt, &links, &roll, keys, clients, liar_clients)?;
+        let sights = Sights::none(alloc, keys.config())?;
+        let roll = Roll::new(alloc, keys.config())?;
+        let local = Arc::new(alloc, Local { links, roll })?;
+        let seats = seats(rt, &local, keys, clients, liar_clients)?;
         Ok(Deployment {
             listener,
             closer,
-            links,
-            roll,
+            local,
+            sights,
             seats,
         })
     }
@@ -87,43 +88,37 @@ impl<'a, R: Wait + Clock + AllocGlobal + Clone + Drop> Deployment<'a, ClientSeat
 impl<'a, S: Drop> Deployment<'a, S> {
     /// Gives one of the stations its beats and timeouts until it is told to stop. Where its replica stops, that is
     /// told; and where no request can be answered any more, the front is closed.
-    fn keep<'s, R: Wait + Clock + Log>(
-        &self,
-        rt: &R,
-        stations: &[Station<'s>],
-        station: &Station<'s>,
-        stop: &AtomicBool,
-    ) {
-        let Some(fault) = watch(rt, stations, station, &self.links, stop) else {
+    fn keep<R: Wait + Clock + Log>(&self, rt: &R, station: &Station<'_>, stop: &AtomicBool) {
+        let Some(fault) = watch(rt, station, &self.sights, stop) else {
             return;
         };
-        self.roll.strike(rt, fault);
-        let (number, n) = (station.number().0, self.links.config().n());
-        let going = self.roll.going(rt);
+        let roll = &self.local.roll;
+        roll.strike(rt, fault);
+        let (number, n) = (station.number().0, self.local.config().n());
+        let going = roll.going(rt);
         warn!(rt; "replica {number} stopped: {fault}; {going} of {n} go on");
-        if !self.roll.is_open(rt) {
+        if !roll.is_open(rt) {
             self.closer.close(&self.seats);
         }
     }
 }
 
 /// Starts the threads of one of the stations: its workers and its clock. Whether all could be had.
-fn start_station<'s, 'k, E, R: Wait + Clock + Sync + Send + AllocGlobal + Log + Clone + Drop>(
+fn start_station<'s, E, R: Wait + Clock + Sync + Send + AllocGlobal + Log + Clone + Drop>(
     rt: &'s R,
     scope: &Scope<'s, E>,
-    stations: &'s [Station<'k>],
-    station: &'s Station<'k>,
+    station: &'s Station<'_>,
     workers: Vec<WorkerStart>,
-    deployment: &'s Deployment<'_, ClientSeat<R>>,
+    deployment: &'s Deployment<'_, ClientSeat<R, Local>>,
     stop: &'s AtomicBool,
 ) -> bool {
-    let links: &Links = &deployment.links;
+    let links: &Links = &deployment.local.links;
     let mut all_started = true;
     for worker in workers {
         let started = scope.spawn(move || run_worker(rt, station, links, worker, stop));
         all_started = all_started && started.is_ok();
     }
-    let timed = scope.spawn(move || deployment.keep(rt, stations, station, stop));
+    let timed = scope.spawn(move || deployment.keep(rt, station, stop));
     all_started && timed.is_ok()
 }
 
@@ -133,12 +128,12 @@ fn start_stations<'s, E, R: Wait + Clock + Sync + Send + AllocGlobal + Log + Clo
     scope: &Scope<'s, E>,
     stations: &'s [Station<'_>],
     workers: Vec<Vec<WorkerStart>>,
-    deployment: &'s Deployment<'_, ClientSeat<R>>,
+    deployment: &'s Deployment<'_, ClientSeat<R, Local>>,
     stop: &'s AtomicBool,
 ) -> bool {
     let mut all_started = true;
     for (station, workers) in stations.iter().zip(workers) {
-        let started = start_station(rt, scope, stations, station, workers, deployment, stop);
+        let started = start_station(rt, scope, station, workers, deployment, stop);
         all_started = all_started && started;
     }
     all_started
@@ -147,7 +142,7 @@ fn start_stations<'s, E, R: Wait + Clock + Sync + Send + AllocGlobal + Log + Clo
 /// Starts all stations, and serves as many connections as the terms say. All threads have ended when it returns.
 fn serve_at<R: Threads + Wait + Clock + Sync + Send + AllocGlobal + Log + Clone + Drop>(
     rt: &R,
-    deployment: &Deployment<'_, ClientSeat<R>>,
+    deployment: &Deployment<'_, ClientSeat<R, Local>>,
     stations: &[Station<'_>],
     workers: Vec<Vec<WorkerStart>>,
     watcher: Watcher<'_>,
@@ -155,13 +150,11 @@ fn serve_at<R: Threads + Wait + Clock + Sync + Send + AllocGlobal + Log + Clone 
 ) -> Result<(), Fault> {
     let stop = AtomicBool::new(false);
     let stop = &stop;
-    let links: &Links = &deployment.links;
-    let roll: &Roll = &deployment.roll;
+    let local: &Local = &deployment.local;
     let seats = &deployment.seats;
     let board = Board {
         stations,
-        links,
-        roll,
+        local,
         seats,
         watcher,
     };
@@ -174,12 +167,12 @@ fn serve_at<R: Threads + Wait + Clock + Sync + Send + AllocGlobal + Log + Clone 
             Err(Fault::Memory)
         };
         stop.store(true, SeqCst);
-        stop_all(rt, links);
+        stop_all(rt, stations);
         served
     });
     match served {
         Ok(_) => Ok(()),
-        Err(fault) => Err(roll.cause(rt).unwrap_or(fault)),
+        Err(fault) => Err(local.roll.cause(rt).unwrap_or(fault)),
     }
 }
 
@@ -188,7 +181,7 @@ fn serve_at<R: Threads + Wait + Clock + Sync + Send + AllocGlobal + Log + Clone 
 fn serve_and_judge<R: Threads + Wait + Clock + Sync + Send + AllocGlobal + Log + Clone + Drop>(
     rt: &R,
     keys: &PairKeys,
-    deployment: &Deployment<'_, ClientSeat<R>>,
+    deployment: &Deployment<'_, ClientSeat<R, Local>>,
     marks: &Marks,
     eyes: Vec<Eye>,
     ends: Vec<Arc<Inbox>>,

@@ -2,9 +2,9 @@
 
 ghost use Rattle.std.specs.Prelude.{◌≡◌, ◌&&◌, nat_le, nat_lt};
 
-use crate::stations::Station;
 use ids::View;
 use log::{Log, info};
+use station::Station;
 use std::sync::Wait;
 use tuning::WARNING_PAUSE_SECONDS;
 
@@ -26,7 +26,7 @@ fn is_due(views: Views, view: View, second: u64) -> bool
 fn foremost<R: Wait>(rt: &R, stations: &[Station<'_>]) -> View {
     let mut view = View(0);
     for station in stations {
-        view = View(view.0.max(station.view(rt).0));
+        view = View(view.0.max(station.progress(rt).view.0));
     }
     view
 }

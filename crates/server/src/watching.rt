@@ -2,16 +2,15 @@
 
 ghost use Rattle.std.specs.Prelude.{◌≡◌, max};
 
-use crate::doubts::Doubted;
+use crate::doubted::Doubted;
 use crate::floods::Floods;
 use crate::laggards::Laggards;
-use crate::roll::Roll;
-use crate::stations::Station;
+use crate::local::Local;
 use crate::views::Views;
-use fabric::Links;
 use ids::{Height, View};
 use log::{Log, info};
 use marks::Watcher;
+use station::Station;
 use std::sync::Wait;
 use std::sync::atomic::AtomicBool;
 use std::sync::atomic::Ordering::SeqCst;
@@ -20,20 +19,20 @@ use std::time::{Clock, Duration};
 use tcp_front::Seats;
 use tuning::{STATUS_LOOK_MILLIS, STATUS_LOOKS};
 
-/// How far a replica is.
+/// How far replicas are.
 #[derive(Clone, Copy)]
-pub(crate) struct Progress {
-    pub(crate) executed: u64,
-    pub(crate) height: Height,
-    pub(crate) blocks: usize,
-    pub(crate) pending: usize,
-    pub(crate) view: View,
+struct Status {
+    executed: u64,
+    height: Height,
+    blocks: usize,
+    pending: usize,
+    view: View,
 }
 
-impl Progress {
+impl Status {
     /// Nothing was done.
-    fn none() -> Progress {
-        Progress {
+    fn none() -> Status {
+        Status {
             executed: 0,
             height: Height(0),
             blocks: 0,
@@ -43,7 +42,7 @@ impl Progress {
     }
 
     /// Of each number the greater.
-    fn max(self, other: Progress) -> Progress
+    fn max(self, other: Status) -> Status
         ensures { result ≡ record {
           executed = max self.executed other.executed;
           height = max self.height other.height;
@@ -52,7 +51,7 @@ impl Progress {
           view = max self.view other.view;
         } }
     {
-        Progress {
+        Status {
             executed: self.executed.max(other.executed),
             height: Height(self.height.0.max(other.height.0)),
             blocks: self.blocks.max(other.blocks),
@@ -63,11 +62,17 @@ impl Progress {
 }
 
 /// How far the foremost replicas are. How far each has executed is read off its mark.
-fn foremost<R: Wait>(rt: &R, stations: &[Station<'_>], watcher: &mut Watcher<'_>) -> Progress {
-    let mut foremost = Progress::none();
+fn foremost<R: Wait>(rt: &R, stations: &[Station<'_>], watcher: &mut Watcher<'_>) -> Status {
+    let mut foremost = Status::none();
     for station in stations {
-        let executed = watcher.executed(station.number()).unwrap_or(0);
-        foremost = foremost.max(station.progress(rt, executed));
+        let progress = station.progress(rt);
+        foremost = foremost.max(Status {
+            executed: watcher.executed(station.number()).unwrap_or(0),
+            height: progress.height,
+            blocks: progress.blocks,
+            pending: progress.pending,
+            view: progress.view,
+        });
     }
     foremost
 }
@@ -76,8 +81,7 @@ fn foremost<R: Wait>(rt: &R, stations: &[Station<'_>], watcher: &mut Watcher<'_>
 #[derive(Drop)]
 pub(crate) struct Board<'a, 's, 'm, S> {
     pub(crate) stations: &'a [Station<'s>],
-    pub(crate) links: &'a Links,
-    pub(crate) roll: &'a Roll,
+    pub(crate) local: &'a Local,
     pub(crate) seats: &'a Seats<S>,
     pub(crate) watcher: Watcher<'m>,
 }
@@ -85,13 +89,14 @@ pub(crate) struct Board<'a, 's, 'm, S> {
 impl<'a, 's, 'm, S: Drop> Board<'a, 's, 'm, S> {
     /// Tells one line. So many commands were executed at the last one, so many seconds ago. How many are now.
     fn tell<R: Wait + Log>(&mut self, rt: &R, before: u64, seconds: u64) -> u64 {
-        let config = self.links.config();
+        let local = self.local;
+        let config = local.config();
         let now = foremost(rt, self.stations, &mut self.watcher);
         let rate = now.executed.saturating_sub(before) / seconds.max(1);
         let (executed, height, blocks) = (now.executed, now.height.0, now.blocks);
         let (view, leader, pending) = (now.view.0, config.leader(now.view).0, now.pending);
-        let (open, lost) = (self.seats.taken(), self.links.lost());
-        let (going, n) = (self.roll.going(rt), config.n());
+        let (open, lost) = (self.seats.taken(), local.links.lost());
+        let (going, n) = (local.roll.going(rt), config.n());
         info!(rt; "{executed} commands, {rate} a second; {open} connections; view {view}, leader r{leader}; \
             height {height}, {blocks} blocks held; {pending} requests pending; {lost} frames lost; \
             {going} of {n} replicas go on");
@@ -111,13 +116,15 @@ impl<'a, 's, 'm, S: Drop> Board<'a, 's, 'm, S> {
         let mut laggards = Laggards::none();
         let mut floods = Floods::none();
         let (mut doubted, mut views) = (Doubted::none(), Views::none());
+        let local = self.local;
+        let links = &local.links;
         for _ in rt.forever() {
             if !sleep_a_second(rt, stop) {
                 break;
             }
             passed = passed.saturating_add(1);
             laggards.look(rt, self.stations);
-            floods.look(rt, self.links, passed);
+            floods.look(rt, links, passed);
             doubted.look(rt, self.stations, passed);
             views.look(rt, self.stations, passed);
             if passed % each == 0 {

@@ -1,6 +1,7 @@
 use Rattle.std.proofs.Common.{◌≡◌, map}
 use Rattle.std.specs.List.{range_with_len}
-use Rattle.server.specs.Seating.{seated, sits}
+use Rattle.client_seats.specs.Seating.{sits}
+use Rattle.server.specs.Seating.{seated}
 use Rattle.server.proofs.client_seat.seats.Given as goal
 
 -- each client so far has its seat

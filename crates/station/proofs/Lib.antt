@@ -1,0 +1,5 @@
+pub mod Sets
+mod Lies
+mod Numbers
+mod Sharing
+mod Doubting

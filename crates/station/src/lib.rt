@@ -1,0 +1,30 @@
+//! One replica of a running deployment: what lies under its lock, its workers and its clock, over whatever carries what it
+//! says.
+#![tactic(auto)]
+
+mod beside;
+mod building;
+mod comeback;
+mod doubts;
+mod guarded;
+mod lying;
+mod outside;
+mod passed_over;
+mod passing;
+mod recorder;
+mod sights;
+mod station;
+mod terms;
+mod timed;
+mod trouble;
+mod worker;
+mod working;
+
+pub use building::{build_station, stations};
+pub use doubts::Doubt;
+pub use sights::Sights;
+pub use station::{Progress, Station};
+pub use terms::{Liars, Terms, Workers};
+pub use timed::watch;
+pub use worker::WorkerStart;
+pub use working::run_worker;

@@ -1,0 +1,195 @@
+//! What lies around the workers of a correct replica.
+
+ghost use Rattle.std.specs.Prelude.{◌≡◌};
+
+use crate::station::Station;
+use asking::{Ask, BlockCopy};
+use authenticators::VerifyingKeyring;
+use bytes::Bytes;
+use catching_up::Question;
+use fabric::{Outgoing, Post, Questioned, Recording, ReplicaSet};
+use ids::{Digest, Height, ReplicaId, View};
+use signed_frames::Sending;
+use std::alloc::{AllocError, Global};
+use std::sync::Wait;
+use std::time::{Clock, Instant};
+use tuning::QUESTION_PAUSE_MILLIS;
+
+/// The frames of copies.
+fn copies_of(alloc: Global, copies: &[BlockCopy]) -> Result<Vec<Bytes>, AllocError> {
+    let mut frames = Vec::new(alloc);
+    for copy in copies {
+        frames.push(copy.frame.clone()?)?;
+    }
+    Ok(frames)
+}
+
+/// A post, and a replica's station: its sign of trouble, what it doubts, and its questions.
+#[derive(Drop)]
+pub(crate) struct Outside<'s, 'a, P> {
+    post: &'s P,
+    station: &'s Station<'a>,
+    /// When its worker began. None where the clock can't be read: then no time passes for its questions.
+    start: Option<Instant>,
+}
+
+impl<'s, 'a, P> Outside<'s, 'a, P> {
+    /// What lies around a worker that begins now.
+    pub(crate) fn new<R: Clock>(
+        rt: &R,
+        post: &'s P,
+        station: &'s Station<'a>,
+    ) -> Outside<'s, 'a, P> {
+        Outside {
+            post,
+            station,
+            start: Instant::now(rt).ok(),
+        }
+    }
+
+    /// The milliseconds since its worker began.
+    fn now<R: Clock>(&self, rt: &R) -> u64 {
+        let passed = self.start.and_then(|start| start.elapsed(rt).ok());
+        match passed {
+            Some(passed) => u64::try_from(passed.as_millis()).unwrap_or(u64::MAX),
+            None => 0,
+        }
+    }
+}
+
+/// What it recorded, and how it comes back, has locks of its own.
+impl<P: Post> Recording for Outside<'_, '_, P> {
+    fn record<R: Wait>(&self, rt: &R, bytes: &Bytes, voted: Option<Digest>) {
+        self.station.recorder().record(rt, bytes, voted);
+    }
+
+    fn reach(&self) -> Option<Height> {
+        self.station.comeback().reach()
+    }
+
+    fn answer<R: Wait + Clock>(&self, rt: &R, alloc: Global, from: ReplicaId, question: Question) {
+        let recorder = self.station.recorder();
+        if !recorder.may_answer(from, self.now(rt)) {
+            return;
+        }
+        if let Ok(answer) = recorder.answer(rt, alloc, question) {
+            self.post.answer(rt, self.station.number(), from, answer);
+        }
+    }
+
+    fn awaits<R: Wait>(&self, rt: &R, question: &Question) -> bool {
+        self.station.comeback().awaits(rt, question)
+    }
+
+    fn answered<R: Wait + Clock>(&self, rt: &R, question: &Question) {
+        let (now, height) = (self.now(rt), self.station.height(rt));
+        let comeback = self.station.comeback();
+        comeback.answered(rt, now, height, question);
+        self.catch_up(rt);
+    }
+
+    fn catch_up<R: Wait + Clock>(&self, rt: &R) {
+        let (now, height) = (self.now(rt), self.station.height(rt));
+        if let Some(question) = self.station.comeback().look(rt, now, height) {
+            self.post.ask(rt, self.station.number(), question);
+        }
+    }
+}
+
+impl<P: Post> Outgoing for Outside<'_, '_, P> {
+    fn send<R: Wait>(&self, rt: &R, from: ReplicaId, sending: Sending) {
+        self.post.send(rt, from, sending);
+    }
+
+    fn pass_on<R: Wait>(&self, rt: &R, from: ReplicaId, to: Option<ReplicaId>, frame: Bytes) {
+        self.post.pass_on(rt, from, to, frame);
+    }
+
+    fn in_trouble(&self) -> bool {
+        self.station.trouble().is_on()
+    }
+
+    fn leads(&self) -> bool {
+        let view = self.station.trouble().view();
+        self.post.config().leader(view) == self.station.number()
+    }
+
+    fn passes_over<R: Wait>(&self, rt: &R, voter: ReplicaId) -> bool {
+        self.station.passed_over().has(rt, voter)
+    }
+
+    fn millis<R: Clock>(&self, rt: &R) -> u64 {
+        self.now(rt)
+    }
+
+    fn doubted<R: Wait>(&self, rt: &R, keyring: &VerifyingKeyring, bytes: &[u8]) {
+        self.station.trouble().doubt();
+        self.station.doubts().look(rt, keyring, bytes);
+        if let Some(doubt) = self.station.passed_over().look(rt, keyring, bytes) {
+            let own = self.station.number();
+            self.post.doubt(rt, own, doubt.sender, doubt.wrong);
+        }
+    }
+
+    fn hear_doubt<R: Wait>(&self, rt: &R, from: ReplicaId, voters: ReplicaSet) {
+        self.station.passed_over().hear(rt, from, &voters);
+    }
+
+    fn view(&self) -> View {
+        self.station.trouble().view()
+    }
+}
+
+/// The questions stand under the replica's lock, where its doorkeeper learns on whose account a block comes.
+impl<P: Post> Questioned for Outside<'_, '_, P> {
+    /// The first question goes out after a pause: votes that give grounds are mostly on their way.
+    fn need<R: Wait + Clock>(&self, rt: &R, block: Digest, payer: ReplicaId) {
+        let due = self.now(rt).saturating_add(QUESTION_PAUSE_MILLIS);
+        let _refused = self
+            .station
+            .lock(rt)
+            .questions
+            .need(block, payer, None, due);
+    }
+
+    fn need_below<R: Wait + Clock>(
+        &self,
+        rt: &R,
+        block: &Digest,
+        parent: Digest,
+        sender: ReplicaId,
+    ) {
+        let now = self.now(rt);
+        let questions = &mut self.station.lock(rt).questions;
+        let payer = questions.payer(block).unwrap_or(sender);
+        let _refused = questions.need(parent, payer, Some(sender), now);
+        questions.wait_for(block, parent);
+    }
+
+    fn next<R: Wait + Clock>(&self, rt: &R) -> Option<Ask> {
+        let now = self.now(rt);
+        self.station.lock(rt).questions.next(now)
+    }
+
+    fn keep<R: Wait + Clock>(
+        &self,
+        rt: &R,
+        alloc: Global,
+        block: &Digest,
+        sender: ReplicaId,
+        copy: Bytes,
+    ) -> Option<Vec<Bytes>> {
+        let (now, faults) = (self.now(rt), self.post.config().faults());
+        let questions = &mut self.station.lock(rt).questions;
+        let senders = questions.keep(block, sender, copy).ok()?;
+        if senders <= usize::from(faults) {
+            questions.hasten(block, now);
+            return None;
+        }
+        copies_of(alloc, questions.copies(block)).ok()
+    }
+
+    fn close<R: Wait>(&self, rt: &R, block: &Digest) {
+        self.station.lock(rt).questions.close(block);
+    }
+}

@@ -1,0 +1,123 @@
+//! What a replica recorded for others.
+
+use bytes::Bytes;
+use catching_up::Question;
+use fabric::Answer;
+use frame_record::{Announced, Announcements, FrameRecord, Recorded};
+use frames_view::{CoreView, Frame, read};
+use ids::{Config, Digest, Height, ReplicaId};
+use std::alloc::{AllocError, Global};
+use std::sync::atomic::AtomicU64;
+use std::sync::atomic::Ordering::SeqCst;
+use std::sync::{Mutex, Wait};
+use tuning::{ANSWER_PAUSE_MILLIS, MOST_CATCH_UP_BYTES};
+
+/// A number of bytes as what memory is counted in.
+fn size_of(bytes: u64) -> usize {
+    usize::try_from(bytes).unwrap_or(usize::MAX)
+}
+
+/// The frames that a replica took, each of the two kinds under a lock, and when it answered whom. Threads share it by
+/// reference.
+#[derive(Drop)]
+pub(crate) struct Recorder {
+    config: Config,
+    frames: Mutex<FrameRecord>,
+    announcements: Mutex<Announcements>,
+    /// Until when each replica gets no other answer, in milliseconds.
+    answered: Vec<AtomicU64>,
+}
+
+impl Recorder {
+    /// Nothing was recorded, and what is may take so many megabytes.
+    pub(crate) fn new(
+        alloc: Global,
+        config: Config,
+        megabytes: u64,
+    ) -> Result<Recorder, AllocError> {
+        let mut answered = Vec::new(alloc);
+        for _ in 0..config.n() {
+            answered.push(AtomicU64::new(0))?;
+        }
+        let most = size_of(megabytes.saturating_mul(1 << 20));
+        Ok(Recorder {
+            config,
+            frames: Mutex::new(FrameRecord::new(alloc, most)),
+            announcements: Mutex::new(Announcements::new(alloc, config)?),
+            answered,
+        })
+    }
+
+    /// A frame was taken. The replica voted for its block, where this is one. For want of memory it isn't recorded.
+    pub(crate) fn record<R: Wait>(&self, rt: &R, bytes: &Bytes, voted: Option<Digest>) {
+        let Ok(frame) = bytes.clone() else {
+            return;
+        };
+        match read(&self.config, bytes.as_slice()) {
+            Ok(Frame::Proposal(proposal)) => self.note_block(rt, &proposal.core(), frame, voted),
+            Ok(Frame::NewView(announcement)) => {
+                let view = announcement.view();
+                let mut announcements = self.announcements.lock(rt);
+                announcements.note(announcement.sender(), Announced { view, frame });
+            }
+            _ => {}
+        }
+    }
+
+    /// A proposal was taken.
+    fn note_block<R: Wait>(
+        &self,
+        rt: &R,
+        core: &CoreView<'_>,
+        frame: Bytes,
+        voted: Option<Digest>,
+    ) {
+        let recorded = Recorded {
+            height: core.height(),
+            block: match voted {
+                Some(block) => block,
+                None => core.digest(),
+            },
+            frame,
+        };
+        let _refused = self.frames.lock(rt).put(recorded);
+    }
+
+    /// Whether a replica that asks now gets an answer: the last one went out some time ago.
+    pub(crate) fn may_answer(&self, from: ReplicaId, now: u64) -> bool {
+        let Some(until) = self.answered.get(usize::from(from.0)) else {
+            return false;
+        };
+        if now < until.load(SeqCst) {
+            return false;
+        }
+        until.store(now.saturating_add(ANSWER_PAUSE_MILLIS), SeqCst);
+        true
+    }
+
+    /// The answer to a question, of no more bytes than a correct replica asks for. The bytes of frames are shared.
+    pub(crate) fn answer<R: Wait>(
+        &self,
+        rt: &R,
+        alloc: Global,
+        question: Question,
+    ) -> Result<Answer, AllocError> {
+        let most = size_of(question.bytes.min(MOST_CATCH_UP_BYTES));
+        let batch = self.frames.lock(rt).from(alloc, question.from, most)?;
+        let announced = self.announcements.lock(rt).frames(alloc)?;
+        Ok(Answer {
+            question,
+            frames: batch.frames,
+            announced,
+            is_last: batch.is_last,
+        })
+    }
+
+    /// The lowest height of a frame that it recorded; the greatest of all where there is none.
+    pub(crate) fn lowest<R: Wait>(&self, rt: &R) -> Height {
+        match self.frames.lock(rt).lowest() {
+            Some(height) => height,
+            None => Height(u64::MAX),
+        }
+    }
+}

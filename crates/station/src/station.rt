@@ -1,0 +1,163 @@
+//! One replica of a running deployment.
+
+ghost use Rattle.std.specs.Prelude.{◌≡◌};
+
+use crate::comeback::Comeback;
+use crate::doubts::{Doubt, Doubts};
+use crate::guarded::Guarded;
+use crate::passed_over::PassedOver;
+use crate::recorder::Recorder;
+use crate::trouble::TroubleSign;
+use clock::Keep;
+use fabric::{Inbox, WaitingRoom};
+use ids::{Height, ReplicaId, View};
+use locked_replica::Kept;
+use std::marker::Model;
+use std::sync::atomic::AtomicU64;
+use std::sync::atomic::Ordering::SeqCst;
+use std::sync::{Arc, Mutex, MutexGuard, Wait};
+
+/// How far a replica is.
+#[derive(Clone, Copy, Debug)]
+pub struct Progress {
+    /// The height that it has executed.
+    pub height: Height,
+    /// Up to where it has forgotten.
+    pub horizon: Height,
+    /// How many blocks it holds.
+    pub blocks: usize,
+    /// How many requests it has that aren't executed.
+    pub pending: usize,
+    pub view: View,
+    /// Whether it makes steps.
+    pub goes_on: bool,
+    /// Whether it is far behind, and asks others for what they recorded.
+    pub is_away: bool,
+}
+
+/// A replica under its lock, behind its doorkeeper, and where what is for it comes out.
+#[derive(Drop)]
+pub struct Station<'a> {
+    pub(crate) number: ReplicaId,
+    pub(crate) locked: Mutex<Guarded<'a>>,
+    /// How much it keeps, if it is to forget.
+    pub(crate) keep: Option<Keep>,
+    /// One more than the last view that its clock ended, 0 where there is none.
+    pub(crate) ended: AtomicU64,
+    pub(crate) doubts: Doubts,
+    pub(crate) trouble: TroubleSign,
+    pub(crate) passed_over: PassedOver,
+    pub(crate) recorder: Recorder,
+    pub(crate) comeback: Comeback,
+    /// Up to which height others are to have executed before its workers begin.
+    pub(crate) late: Option<Height>,
+    pub(crate) inbox: Arc<Inbox>,
+    pub(crate) room: WaitingRoom,
+}
+
+impl<'a> Model for Station<'a> {
+    ghost use Rattle.station.specs.Stations as stations;
+
+    ghost Value = { stations.Station };
+
+    ghost view = { λ s. record { number = s.number; keep = s.keep } };
+}
+
+impl<'a> Station<'a> {
+    /// Which replica stands here.
+    pub fn number(&self) -> ReplicaId
+        ensures { result ≡ self.now.number }
+    {
+        self.number
+    }
+
+    /// The replica, out of its lock.
+    pub fn into_kept(self) -> Kept<'a> {
+        self.locked.into_inner().kept
+    }
+
+    /// How far the replica is.
+    pub fn progress<R: Wait>(&self, rt: &R) -> Progress {
+        let guarded = self.locked.lock(rt);
+        let replica = guarded.replica();
+        Progress {
+            height: replica.height(),
+            horizon: replica.horizon(),
+            blocks: replica.blocks(),
+            pending: replica.pending(),
+            view: replica.view(),
+            goes_on: guarded.stopped().is_none(),
+            is_away: self.comeback.is_away(),
+        }
+    }
+
+    /// The lowest height of a frame that it recorded for others; the greatest of all where there is none.
+    pub fn recorded<R: Wait>(&self, rt: &R) -> Height {
+        self.recorder.lowest(rt)
+    }
+
+    /// The height that more than f others had executed when its clock looked last.
+    pub fn foremost(&self) -> Height {
+        self.comeback.foremost()
+    }
+
+    /// What it doubted since it was asked for last, if anything. It is asked for the next.
+    pub fn take_doubt<R: Wait>(&self, rt: &R) -> Option<Doubt> {
+        self.doubts.take(rt)
+    }
+
+    /// Whether its clock found this view or a later one too slow.
+    pub fn left_by_clock(&self, since: View) -> bool {
+        self.ended.load(SeqCst) > since.0
+    }
+
+    /// Tells its workers to end, all that there are, once they have taken what was handed in before. It takes no memory.
+    pub fn stop<R: Wait>(&self, rt: &R) {
+        self.inbox.stop(rt);
+    }
+
+    /// What is wrong with frames that the replica refuses.
+    pub(crate) fn doubts(&self) -> &Doubts {
+        &self.doubts
+    }
+
+    /// Whether there is trouble around the replica.
+    pub(crate) fn trouble(&self) -> &TroubleSign {
+        &self.trouble
+    }
+
+    /// Whose votes it passes over.
+    pub(crate) fn passed_over(&self) -> &PassedOver {
+        &self.passed_over
+    }
+
+    /// What it recorded for others.
+    pub(crate) fn recorder(&self) -> &Recorder {
+        &self.recorder
+    }
+
+    /// How it comes back where it fell behind.
+    pub(crate) fn comeback(&self) -> &Comeback {
+        &self.comeback
+    }
+
+    /// Where what is for it comes out.
+    pub(crate) fn inbox(&self) -> &Inbox {
+        &self.inbox
+    }
+
+    /// Its clock ended this view.
+    pub(crate) fn note_end(&self, view: View) {
+        self.ended.store(view.0.saturating_add(1), SeqCst);
+    }
+
+    /// The height of the last block that the replica has executed.
+    pub(crate) fn height<R: Wait>(&self, rt: &R) -> Height {
+        self.locked.lock(rt).replica().height()
+    }
+
+    /// What lies under the lock, once that is free.
+    pub(crate) fn lock<R: Wait>(&self, rt: &R) -> MutexGuard<'_, Guarded<'a>> {
+        self.locked.lock(rt)
+    }
+}

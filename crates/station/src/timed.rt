@@ -1,0 +1,158 @@
+//! What a replica's clock sees of it, and hands it in.
+
+ghost use Rattle.std.specs.Prelude.{◌≡◌, count_by, nat_le};
+
+use crate::sights::Sights;
+use crate::station::Station;
+use clock::{Due, LeadFrom, Pulse, Watched, keep_time};
+use fabric::Base;
+use ids::{Fault, Height, MOST_REPLICAS, View};
+use std::sync::Wait;
+use std::sync::atomic::AtomicBool;
+use std::time::Clock;
+use tuning::{LEAD_CLIMB, LEAD_PART, MOST_CLIMB};
+
+/// Whether so many of these views are as great as one.
+fn are_in(view: View, views: &[View], many: u8) -> bool
+    ensures { result ≡ nat_le many (count_by (λ other. nat_le view other) views.now) }
+{
+    let there = views.iter().filter(|other| other.0 >= view.0);
+    there.count() >= usize::from(many)
+}
+
+/// A replica as its clock sees it, what is seen of the others, and the link over which it is handed what is due.
+#[derive(Drop)]
+struct Timed<'s, 'a> {
+    station: &'s Station<'a>,
+    sights: &'s Sights,
+}
+
+impl<'s, 'a> Timed<'s, 'a> {
+    /// From where the replica is to begin anew. It climbs above all that it voted for, and further, since others may have voted
+    /// for more, as far as blocks of its view may.
+    fn base<R: Wait>(&self, rt: &R, from: LeadFrom) -> Base {
+        let guarded = self.station.lock(rt);
+        let replica = guarded.replica();
+        let above = replica.voted().0.saturating_sub(replica.lock_height().0);
+        let most = replica
+            .view()
+            .0
+            .saturating_add(1)
+            .saturating_mul(MOST_CLIMB);
+        let (lock, further) = match from {
+            LeadFrom::Certified => (None, LEAD_CLIMB / LEAD_PART),
+            LeadFrom::Lock => (Some(replica.lock()), LEAD_CLIMB),
+        };
+        Base {
+            lock,
+            climb: above.saturating_add(further).min(most),
+        }
+    }
+
+    /// Whether the replica, which has executed up to this height, is far behind. Then it is to look whether it asks others for
+    /// what they recorded.
+    fn is_away<R: Wait>(&self, rt: &R, height: Height) -> bool {
+        let shown = self.shown();
+        let all = shown.get(..usize::from(self.sights.config().n()));
+        if self.station.comeback().see(rt, height, all.unwrap_or(&[])) {
+            let _lost = self.station.inbox().catch_up(rt);
+        }
+        self.station.comeback().is_away()
+    }
+
+    /// Whether a quorum is in the view that this replica is in, or in later ones, as the others' clocks saw last. Before that nobody
+    /// is to blame where nothing is decided: who is ahead waits.
+    fn is_met(&self, view: View) -> bool {
+        let mut views = self.sights.views();
+        if let Some(own) = views.get_mut(usize::from(self.station.number().0)) {
+            *own = view;
+        }
+        are_in(view, &views, self.sights.config().quorum())
+    }
+
+    /// What is seen of the replica.
+    fn seen<R: Wait>(&self, rt: &R) -> Pulse {
+        let guarded = self.station.lock(rt);
+        let replica = guarded.replica();
+        Pulse {
+            wants_beat: replica.wants_beat(),
+            wants_beat_now: replica.wants_beat_now(),
+            pending: replica.pending() as u64,
+            view: replica.view(),
+            executed: replica.executed() as u64,
+            height: replica.height(),
+            voted: replica.voted(),
+            horizon: replica.horizon(),
+            stopped: guarded.stopped(),
+        }
+    }
+}
+
+/// What a link doesn't take is lost. While the replica is behind others, or ahead of them in its view, nothing is slow; and
+/// while it is far behind, it leads nobody.
+impl<'s, 'a> Watched for Timed<'s, 'a> {
+    fn pulse<R: Wait>(&self, rt: &R) -> Pulse {
+        let seen = self.seen(rt);
+        let is_here = !self.is_away(rt, seen.height);
+        let waits = self.station.comeback().is_near(seen.height) && self.is_met(seen.view);
+        Pulse {
+            wants_beat: is_here && seen.wants_beat,
+            wants_beat_now: is_here && seen.wants_beat_now,
+            pending: if waits { seen.pending } else { 0 },
+            ..seen
+        }
+    }
+
+    fn doubted(&self) -> u64 {
+        self.station.trouble().doubted()
+    }
+
+    fn tell_trouble(&self, is_on: bool, view: View) {
+        self.station.trouble().show(is_on, view);
+        self.sights.show_view(self.station.number(), view);
+    }
+
+    fn hand_in<R: Wait>(&self, rt: &R, due: Due) {
+        let view = self.station.trouble().view();
+        self.station.passed_over().ask(rt, view);
+        if due.beat {
+            let _lost = self.station.inbox().beat(rt);
+        }
+        if let Some(view) = due.timeout {
+            self.station.note_end(view);
+            let _lost = self.station.inbox().timeout(rt, view);
+        }
+        if let Some(from) = due.lead {
+            self.station.trouble().raise();
+            if from == LeadFrom::Lock {
+                self.station.passed_over().forget(rt);
+            }
+            let base = self.base(rt, from);
+            let _lost = self.station.inbox().lead(rt, base);
+        }
+    }
+
+    fn show(&self, height: Height) {
+        self.sights.show_height(self.station.number(), height);
+    }
+
+    fn shown(&self) -> [Height; MOST_REPLICAS] {
+        self.sights.heights()
+    }
+
+    fn prune<R: Wait>(&self, rt: &R, height: Height) {
+        let _lost = self.station.inbox().prune(rt, height);
+    }
+}
+
+/// Gives a station its beats, timeouts and prunings until it is told to stop, or the replica has stopped: then it answers
+/// why.
+pub fn watch<R: Wait + Clock>(
+    rt: &R,
+    station: &Station<'_>,
+    sights: &Sights,
+    stop: &AtomicBool,
+) -> Option<Fault> {
+    let timed = Timed { station, sights };
+    keep_time(rt, &timed, sights.config().n(), station.keep, stop)
+}
