@@ -3,13 +3,19 @@ use Rattle.std.specs.Prelude.{◌≡◌, ℕ, ◌==◌, ◌-◌, ◌^◌, nat_lt
 use Rattle.std.specs.Prelude.{if◌then◌else◌, ⊤}
 use Rattle.std.specs.Str.Parse.{digits_value, without_leading_plus}
 use Rattle.clap.specs.declared.parser.matches.Found.{Found}
-use Rattle.clap.specs.Words.{first_value, one_text}
+use Rattle.clap.specs.declared.parser.matches.ArgMatches.{ArgMatches}
+use Rattle.clap.specs.Words.{first_value, found_of, one_text, rows_of, subcommand_name_of, subcommand_rows_of}
 use Rattle.ids.specs.Sizes.{Sizes}
-use Rattle.server.specs.declared.terms.Liars.{Liars}
-use Rattle.server.specs.declared.terms.Terms.{Terms}
-use Rattle.server.specs.declared.terms.Workers.{Workers}
-use Rattle.server.specs.declared.terms.Workers.TheVariants.{One, Two}
+use Rattle.station.specs.declared.terms.Liars.{Liars}
+use Rattle.station.specs.declared.terms.Terms.{Terms}
+use Rattle.station.specs.declared.terms.Workers.{Workers}
+use Rattle.station.specs.declared.terms.Workers.TheVariants.{One, Two}
+use Rattle.command_line.specs.declared.files.Files.{Files}
+use Rattle.command_line.specs.declared.of_front.FrontOptions.{FrontOptions}
 use Rattle.command_line.specs.declared.options.Options.{Options}
+use Rattle.command_line.specs.declared.of_replica.ReplicaOptions.{ReplicaOptions}
+use Rattle.command_line.specs.declared.wanted.Wanted.{Wanted}
+use Rattle.command_line.specs.declared.wanted.Wanted.TheVariants.{Here, Replica, Front}
 
 -- the number of an option, in decimal
 abbrev pub number_of : Found → List ℕ → Option ℕ
@@ -18,6 +24,10 @@ number_of found name = option_map (λ text. digits_value 10 (without_leading_plu
 -- a number for which 0 stands for none
 abbrev pub unless_zero : ℕ → Option ℕ
 unless_zero n = if n == 0 then None else Some n
+
+-- how many are served: all that come where 0 is said
+abbrev pub most_of : ℕ → ℕ
+most_of n = unwrap_or (unless_zero n) (2 ^ 64 - 1)
 
 -- so many workers
 abbrev pub workers_of : ℕ → Workers
@@ -36,20 +46,32 @@ AreLiars found count (Some liars) = (liars.count ≡ count)
     × (option_map unless_zero (number_of found (codes "liar-until")) ≡ Some liars.until)
     × (first_value found (codes "liar") ≡ None → ⊥)
 
--- the terms are what the options ask for; so many are to lie, if any
-pub record AreTerms (found : Found) (count : ℕ) (terms : Terms) : Type 0 where
+-- what is asked of each replica, of which so many are to lie, if any
+pub record AreTermsOfEach (found : Found) (count : ℕ) (terms : Terms) : Type 0 where
   pub liars : AreLiars found count terms.liars
-  pub liar_clients : number_of found (codes "liar-client") ≡ Some terms.liar_clients
-  pub most : option_map (λ n. unwrap_or (unless_zero n) (2 ^ 64 - 1)) (number_of found (codes "serve")) ≡ Some terms.most
   pub blocks : option_map unless_zero (number_of found (codes "blocks")) ≡ Some terms.blocks
+  pub window_most : option_map unless_zero (number_of found (codes "window-most")) ≡ Some terms.window_most
+  pub recorded : number_of found (codes "record") ≡ Some terms.record
+  pub workers : option_map workers_of (number_of found (codes "workers")) ≡ Some terms.workers
+  pub watch : option_map unless_zero (number_of found (codes "watch")) ≡ Some terms.watch
+
+-- the terms of all replicas here are what the options ask for
+pub record AreTerms (found : Found) (count : ℕ) (terms : Terms) : Type 0 where
+  pub each : AreTermsOfEach found count terms
+  pub liar_clients : number_of found (codes "liar-client") ≡ Some terms.liar_clients
+  pub most : option_map most_of (number_of found (codes "serve")) ≡ Some terms.most
   pub heights : ℕ
   pub window : number_of found (codes "window") ≡ Some heights
   pub kept : IsWindow found heights terms.window
-  pub window_most : option_map unless_zero (number_of found (codes "window-most")) ≡ Some terms.window_most
-  pub recorded : number_of found (codes "record") ≡ Some terms.record
   pub late : option_map unless_zero (number_of found (codes "late")) ≡ Some terms.late
-  pub workers : option_map workers_of (number_of found (codes "workers")) ≡ Some terms.workers
-  pub watch : option_map unless_zero (number_of found (codes "watch")) ≡ Some terms.watch
+
+-- so are those of one replica, which forgets, begins at once and has no clients of its own
+pub record AreTermsOfOne (found : Found) (count : ℕ) (terms : Terms) : Type 0 where
+  pub each : AreTermsOfEach found count terms
+  pub window : option_map (λ heights. Some heights) (number_of found (codes "window")) ≡ Some terms.window
+  pub at_once : terms.late ≡ None
+  pub liar_clients : terms.liar_clients ≡ 0
+  pub endless : terms.most ≡ 2 ^ 64 - 1
 
 -- each option says what the words ask for
 pub record AreOptions (found : Found) (options : Options) : Type 0 where
@@ -65,3 +87,39 @@ pub record AreOptions (found : Found) (options : Options) : Type 0 where
 abbrev pub sizes_of : Options → Sizes
 sizes_of options =
     record { faults = options.faults; clients = options.clients; most_keys = options.keys_held }
+
+-- the files are those that the words name
+pub record AreFiles (found : Found) (files : Files) : Type 0 where
+  pub deployment : first_value found (codes "deployment") ≡ Some files.deployment.now
+  pub keys : first_value found (codes "keys") ≡ Some files.keys.now
+  pub state : first_value found (codes "state") ≡ Some files.state.now
+
+-- each option of a replica says what the words ask for; if it is to lie, 255 replicas are
+pub record AreReplicaOptions (found : Found) (options : ReplicaOptions) : Type 0 where
+  pub number : number_of found (codes "id") ≡ Some options.number
+  pub files : AreFiles found options.files
+  pub listen : first_value found (codes "listen") ≡ option_map (λ text. text.now) options.listen
+  pub terms : AreTermsOfOne found 255 options.terms
+
+-- so does each of a front
+pub record AreFrontOptions (found : Found) (options : FrontOptions) : Type 0 where
+  pub number : number_of found (codes "id") ≡ Some options.number
+  pub files : AreFiles found options.files
+  pub listen : first_value found (codes "listen") ≡ Some options.listen.now
+  pub port : number_of found (codes "port") ≡ Some options.port
+  pub most : option_map most_of (number_of found (codes "serve")) ≡ Some options.most
+  pub watch : option_map unless_zero (number_of found (codes "watch")) ≡ Some options.watch
+
+-- what was found behind the name of a command
+pub record IsBehind (matches : ArgMatches) (name : List ℕ) (found : Found) : Type 0 where
+  pub named : subcommand_name_of matches ≡ Some name
+  pub rows : option_map (λ behind. behind.1) (subcommand_rows_of matches) ≡ Some (rows_of found)
+
+-- what the words want: their command, with options as it has them
+abbrev pub IsWanted : ArgMatches → Wanted → Type 0
+IsWanted matches (Here options) =
+    (subcommand_name_of matches ≡ None) × AreOptions (found_of matches) options
+IsWanted matches (Replica options) =
+    (found : Found) × IsBehind matches (codes "replica") found × AreReplicaOptions found options
+IsWanted matches (Front options) =
+    (found : Found) × IsBehind matches (codes "front") found × AreFrontOptions found options

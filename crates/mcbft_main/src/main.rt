@@ -1,16 +1,23 @@
 //! `mcbft` serves memcached's text protocol on 127.0.0.1, from replicas of which some may lie.
 //!
-//! Its exit status is 0; or 1 with one line on standard error; or 2 for bad words on the command line.
+//! `mcbft replica` and `mcbft front` run one party of a deployment of which each is a process of its own.
+//!
+//! Its exit status is 0; or 1 with one line on standard error; or 2 for bad words on the command line; or 3 where a replica has
+//! run before.
 #![tactic(auto)]
 
 mod faults;
+mod parties;
+mod party_faults;
 mod serving;
 
 use crate::faults::MainFault;
+use crate::parties::{run_as_front, run_as_replica};
+use crate::party_faults::PartyFault;
 use crate::serving::serve;
 use clap::Error;
 use clap::error::ErrorKind;
-use command_line::{Options, matches_of, words_of};
+use command_line::{Wanted, matches_of, words_of};
 use ids::Fault;
 use server::{EndAudit, Ended};
 use std::hash::RandomState;
@@ -56,17 +63,54 @@ fn end(rt: &HostRuntime, ended: &Ended) -> io::Result<ExitCode> {
     }
 }
 
+/// Tells why a party doesn't begin, or ends, and on a line of its own what to do.
+fn fail_as(rt: &HostRuntime, party: &str, number: u8, fault: PartyFault) -> io::Result<ExitCode> {
+    eprintln!(rt; "mcbft: {party} {number}: {fault}")?;
+    eprintln!(rt; "mcbft: {}", fault.advice())?;
+    Ok(ExitCode::from(fault.status()))
+}
+
+/// Tells how a replica ended.
+fn end_replica(
+    rt: &HostRuntime,
+    number: u8,
+    ended: Result<Option<Fault>, PartyFault>,
+) -> io::Result<ExitCode> {
+    match ended {
+        Ok(None) => Ok(ExitCode::SUCCESS),
+        Ok(Some(fault)) => fail_as(rt, "replica", number, PartyFault::from(fault)),
+        Err(fault) => fail_as(rt, "replica", number, fault),
+    }
+}
+
+/// Tells how a front ended.
+fn end_front(rt: &HostRuntime, number: u8, ended: Result<u64, PartyFault>) -> io::Result<ExitCode> {
+    match ended {
+        Ok(served) => {
+            println!(rt; "served {served} connections")?;
+            Ok(ExitCode::SUCCESS)
+        }
+        Err(fault) => fail_as(rt, "front", number, fault),
+    }
+}
+
 fn main(rt: HostRuntime) -> io::Result<ExitCode> {
     let words: Vec<String> = env::args(&rt)?.collect(rt.alloc())?;
     let matches = match matches_of(rt.alloc(), &words) {
         Ok(matches) => matches,
         Err(error) => return tell(&rt, &error),
     };
-    let Some(options) = Options::read(&matches, RandomState::new(&rt)?) else {
-        return fail(&rt, MainFault::Fault(Fault::BadSize));
-    };
-    match serve(&rt, &options) {
-        Ok(ended) => end(&rt, &ended),
-        Err(fault) => fail(&rt, fault),
+    match Wanted::read(&matches, RandomState::new(&rt)?) {
+        Some(Wanted::Here(options)) => match serve(&rt, &options) {
+            Ok(ended) => end(&rt, &ended),
+            Err(fault) => fail(&rt, fault),
+        },
+        Some(Wanted::Replica(options)) => {
+            end_replica(&rt, options.number, run_as_replica(&rt, &options))
+        }
+        Some(Wanted::Front(options)) => {
+            end_front(&rt, options.number, run_as_front(&rt, &options))
+        }
+        None => fail(&rt, MainFault::Fault(Fault::BadSize)),
     }
 }

@@ -1,14 +1,16 @@
 //! Command lines of `mcbft`, and what they ask for.
 
 use anyhow::{Result, bail};
-use command_line::{Options, matches_of};
+use command_line::{Files, FrontOptions, Options, ReplicaOptions, Wanted, matches_of};
+use server::Terms;
 use std::alloc::Global;
 use std::hash::RandomState;
 use std::random::RandomSource;
 
 /// Command lines: what is left out has a value that stands for it; each option has one of its own; an archive; too many
-/// that are to lie, and too few keys; each lie by its name; and words that are none.
-const LINES: [&str; 24] = [
+/// that are to lie, and too few keys; each lie by its name; words that are none; and the same of a replica and of a front,
+/// before whose names no option may stand.
+const LINES: [&str; 32] = [
     "--keys k",
     "--keys k --faults 10 --clients 64 --port 11211 --liar mute --liars 3 --liar-until 5 --liar-seed 8 \
         --liar-client 2 --serve 7 --keys-held 9 --blocks 60 --window 4 --window-most 6 --workers 2 --watch 1 --record 3 --late 11",
@@ -34,21 +36,19 @@ const LINES: [&str; 24] = [
     "--keys k --liar any --liar-seed 5",
     "--keys k --workers 3",
     "--faults 1",
+    "replica --id 2 --deployment d --keys k --state s",
+    "replica --id 3 --deployment d --keys k --state s --listen 10.0.0.4:7450 --window 4 --window-most 6 --blocks 60 \
+        --record 3 --workers 2 --watch 1 --liar any --liar-seed 8 --liar-until 5",
+    "replica --id 2 --deployment d --keys k",
+    "replica --id 2 --deployment d --keys k --state s --archive",
+    "front --id 0 --deployment d --keys k --state s --port 11211",
+    "front --id 1 --deployment d --keys k --state s --port 0 --listen 10.0.0.4 --serve 7 --watch 1",
+    "front --id 0 --deployment d --keys k --state s",
+    "--keys k replica --id 2 --deployment d --keys k --state s",
 ];
 
-/// What options ask for, but for the caches' secret.
-fn text_of(alloc: Global, options: &Options<'_>) -> Result<String> {
-    let (keys, terms) = (options.keys, &options.terms);
-    let (faults, clients, port, held) = (
-        options.faults,
-        options.clients,
-        options.port,
-        options.keys_held,
-    );
-    let mut text = format!(in alloc; "{keys} {faults} {clients} {port} {held}")?;
-    if let Err(fault) = options.config() {
-        write!(text, " fault {}", fault.number())?;
-    }
+/// How replicas are to run, but for the caches' secret.
+fn write_terms(text: &mut String, terms: &Terms) -> Result<()> {
     write!(text, "; {:?}, {}", terms.liars, terms.liar_clients)?;
     write!(
         text,
@@ -60,7 +60,50 @@ fn text_of(alloc: Global, options: &Options<'_>) -> Result<String> {
         " {} {:?} {:?} {:?}",
         terms.record, terms.late, terms.workers, terms.watch
     )?;
+    Ok(())
+}
+
+/// What options ask of all replicas.
+fn text_here(alloc: Global, options: &Options<'_>) -> Result<String> {
+    let (keys, faults, clients) = (options.keys, options.faults, options.clients);
+    let (port, held) = (options.port, options.keys_held);
+    let mut text = format!(in alloc; "{keys} {faults} {clients} {port} {held}")?;
+    if let Err(fault) = options.config() {
+        write!(text, " fault {}", fault.number())?;
+    }
+    write_terms(&mut text, &options.terms)?;
     Ok(text)
+}
+
+/// The number and the files of a process.
+fn text_begun(alloc: Global, name: &str, number: u8, files: &Files<'_>) -> Result<String> {
+    let (deployment, keys, state) = (files.deployment, files.keys, files.state);
+    Ok(format!(in alloc; "{name} {number} {deployment} {keys} {state}")?)
+}
+
+/// What options ask of a replica.
+fn text_of_replica(alloc: Global, options: &ReplicaOptions<'_>) -> Result<String> {
+    let mut text = text_begun(alloc, "replica", options.number, &options.files)?;
+    write!(text, " {:?}", options.listen)?;
+    write_terms(&mut text, &options.terms)?;
+    Ok(text)
+}
+
+/// What options ask of a front.
+fn text_of_front(alloc: Global, options: &FrontOptions<'_>) -> Result<String> {
+    let mut text = text_begun(alloc, "front", options.number, &options.files)?;
+    let (listen, port, most) = (options.listen, options.port, options.most);
+    write!(text, " {listen} {port}; {most} {:?}", options.watch)?;
+    Ok(text)
+}
+
+/// What is wanted.
+fn text_of(alloc: Global, wanted: &Wanted<'_>) -> Result<String> {
+    match wanted {
+        Wanted::Here(options) => text_here(alloc, options),
+        Wanted::Replica(options) => text_of_replica(alloc, options),
+        Wanted::Front(options) => text_of_front(alloc, options),
+    }
 }
 
 /// What a command line asks for. None where it isn't one.
@@ -73,8 +116,8 @@ fn told_of(alloc: Global, hasher: RandomState, line: &str) -> Result<Option<Stri
     let Ok(matches) = matches_of(alloc, words.as_slice()) else {
         return Ok(None);
     };
-    match Options::read(&matches, hasher) {
-        Some(options) => Ok(Some(text_of(alloc, &options)?)),
+    match Wanted::read(&matches, hasher) {
+        Some(wanted) => Ok(Some(text_of(alloc, &wanted)?)),
         None => bail!("no options"),
     }
 }

@@ -1,0 +1,200 @@
+//! A front in a process of its own.
+
+use crate::fronts::{Front, Fronts};
+use crate::holding::hold;
+use crate::numbering::{Clerk, Numbering};
+use crate::peers::{endpoint, new_life, replicas};
+use crate::refusal::Refusal;
+use crate::replies::Replies;
+use crate::wire_requests::WireRequests;
+use client_seats::{ClientSeat, seat};
+use deployment::Deployment;
+use fabric::{ClientEnd, ClientLinks};
+use ids::{ClientId, Fault, ReplicaId, Seq};
+use key_file::HeldKeys;
+use log::Log;
+use state_marks::{Directory, Numbers};
+use std::alloc::Global;
+use std::fs::File;
+use std::net::{Net, TcpListener, TcpStream};
+use std::random::RandomSource;
+use std::rt::Files;
+use std::sync::atomic::AtomicBool;
+use std::sync::atomic::Ordering::SeqCst;
+use std::sync::{Arc, Wait};
+use std::thread;
+use std::thread::Threads;
+use std::time::Clock;
+use tcp_front::{Seats, front};
+use wires::{Pace, Wires};
+
+/// Which front it is, and how many connections it serves.
+#[derive(Clone, Copy, Debug)]
+pub struct FrontTerms {
+    pub number: u8,
+    pub most: u64,
+}
+
+/// A front that has its wires, and serves nobody yet.
+#[derive(Drop)]
+struct Begun<'d, R> {
+    requests: Arc<WireRequests>,
+    clerk: Clerk<'d, R>,
+    /// Behind which number its clients go on.
+    behind: Seq,
+}
+
+/// The wires of a front's process, and its numbers, behind all that it may have given before.
+fn begin<'d, R: AllocGlobal + Clock + RandomSource + Files>(
+    rt: &'d R,
+    deployment: &Deployment<'_>,
+    keys: &HeldKeys,
+    place: Front,
+    state: &'d str,
+) -> Result<Begun<'d, R>, Refusal> {
+    let (alloc, party) = (rt.alloc(), place.party());
+    let directory = Directory::new(rt, state, party);
+    let numbers = Numbers::begin(party, directory.mark()?)?;
+    let behind = numbers.behind();
+    let life = directory.life(new_life(rt)?)?;
+    let peers = replicas(alloc, deployment, None)?;
+    let endpoint = endpoint(alloc, keys, party, life)?;
+    let wires = Wires::new(rt, endpoint, Pace::usual(), &peers, None)?;
+    let requests = WireRequests::new(rt, keys.config(), wires, Numbering::up_to(behind));
+    Ok(Begun {
+        requests: Arc::new(alloc, requests)?,
+        clerk: Clerk { numbers, directory },
+        behind,
+    })
+}
+
+/// A seat for each client of a front, at the ends where their replies come out.
+fn seats<R: Wait + Clock + AllocGlobal + Clone + Drop>(
+    rt: &R,
+    requests: &Arc<WireRequests>,
+    behind: Seq,
+    keys: &HeldKeys,
+    place: Front,
+    ends: Vec<ClientEnd>,
+) -> Result<Seats<ClientSeat<R, WireRequests>>, Refusal> {
+    let alloc = rt.alloc();
+    let mut seats = Vec::new(alloc);
+    for (client, frames) in (place.first.0..keys.config().clients()).zip(ends) {
+        let client = ClientId(client);
+        let keyring = keys.keyring(alloc, client.into())?;
+        seats.reserve(1)?;
+        let seated = seat(rt, requests, keyring, client, behind, frames, false)?;
+        seats.push_reserved(seated);
+    }
+    Ok(Seats::new(alloc, seats)?)
+}
+
+/// Where the replies of each replica are handed in.
+fn rows<'a, R: Wait>(
+    rt: &'a R,
+    alloc: Global,
+    keys: &HeldKeys,
+    links: &'a ClientLinks,
+) -> Result<Vec<Replies<'a, R>>, Refusal> {
+    let config = keys.config();
+    let mut rows = Vec::new(alloc);
+    for number in 0..config.n() {
+        rows.reserve(1)?;
+        rows.push_reserved(Replies {
+            rt,
+            alloc,
+            config,
+            links,
+            from: ReplicaId(number),
+        });
+    }
+    Ok(rows)
+}
+
+/// Keeps a front's wires, and serves so many connections, while its clerk marks numbers in this thread.
+fn serve<R>(
+    rt: &R,
+    requests: &WireRequests,
+    clerk: Clerk<'_, R>,
+    rows: Vec<Replies<'_, R>>,
+    listener: &TcpListener,
+    seats: &Seats<ClientSeat<R, WireRequests>>,
+    most: u64,
+) -> Result<u64, Fault>
+where
+    R: Threads
+        + Wait
+        + Clock
+        + Sync
+        + Send
+        + AllocGlobal
+        + Clone
+        + Drop
+        + Log
+        + RandomSource
+        + Files
+        + Net<Listener = TcpListener, Stream = TcpStream>,
+{
+    let is_done = AtomicBool::new(false);
+    let (is_done, wires) = (&is_done, requests.wires());
+    thread::scope(thread::scope_env(), rt, |scope| {
+        let wired = scope.spawn(move || wires::run(rt, wires, None, rows));
+        let served = scope.spawn(move || {
+            let served = front(rt, listener, seats, most);
+            is_done.store(true, SeqCst);
+            served
+        });
+        let (Ok(_), Ok(served)) = (wired, served) else {
+            wires.close(rt);
+            return Err(Fault::Memory);
+        };
+        clerk.keep(rt, requests.numbering(), is_done);
+        wires.close(rt);
+        served.join(rt)
+    })
+}
+
+/// Runs a front of a deployment in this process: it serves memcached's clients at this listener, so many connections, as the
+/// clients of replicas that are its own. How many were served.
+///
+/// A front that comes back goes on behind all numbers that it may have given, as the directory of this path keeps them.
+pub fn run_front<R>(
+    rt: &R,
+    deployment: &Deployment<'_>,
+    keys: &HeldKeys,
+    terms: FrontTerms,
+    state: &str,
+    listener: &TcpListener,
+) -> Result<u64, Refusal>
+where
+    R: Threads
+        + Wait
+        + Clock
+        + Sync
+        + Send
+        + AllocGlobal
+        + Clone
+        + Drop
+        + Log
+        + RandomSource
+        + Files<File = File>
+        + Net<Listener = TcpListener, Stream = TcpStream>,
+{
+    let alloc = rt.alloc();
+    let _held = hold(rt, state)?;
+    let fronts = Fronts::of(alloc, deployment)?;
+    let Some(place) = fronts.get(terms.number) else {
+        return Err(Refusal::NoSuchPlace);
+    };
+    let Begun {
+        requests,
+        mut clerk,
+        behind,
+    } = begin(rt, deployment, keys, place, state)?;
+    clerk.look(requests.numbering());
+    let (links, ends) = ClientLinks::new(alloc, keys.config(), place.first, place.count)?;
+    let rows = rows(rt, alloc, keys, &links)?;
+    let seats = seats(rt, &requests, behind, keys, place, ends)?;
+    let most = terms.most;
+    Ok(serve(rt, &requests, clerk, rows, listener, &seats, most)?)
+}
