@@ -6,7 +6,7 @@ use Rattle.std.proofs.lemmas.Bool.{le-leb, eq-eqb, not_from_true}
 use Rattle.std.proofs.Math.Nat.{min-le_left, min-le_right, min-eq_left, min-eq_right, le-min}
 use Rattle.clock.specs.declared.watch.Pulse.{Pulse}
 use Rattle.clock.specs.declared.watch.Watch.{Watch}
-use Rattle.clock.specs.Watching.{is_due, is_overdue, lags, limit_after, moved, slow_after, vain_after}
+use Rattle.clock.specs.Watching.{is_due, is_overdue, lags, limit_after, moved, slow_after}
 use Rattle.clock.specs.Laws.{Looks, watched, lagged, lagged_on, IsEarned, IsGiven, IsPatient}
 
 -- three times the time is as much as the count, at most
@@ -33,23 +33,23 @@ slow-step false false true slow passed k most h =
 slow-step false false false slow passed k most h = omega (arith, h)
 
 -- what is remembered counts no more than three times the time that it lagged
-slow-lagged : (replicas : ℕ) (looks : Looks) → (watched replicas looks).slow ≤ 3 * lagged replicas looks
+slow-lagged : (replicas times : ℕ) (looks : Looks) → (watched replicas times looks).slow ≤ 3 * lagged replicas times looks
 unfolding watched lagged
-slow-lagged replicas [] = omega arith
-slow-lagged replicas (x ∷ earlier) =
-    let w = watched replicas earlier in
+slow-lagged replicas times [] = omega arith
+slow-lagged replicas times (x ∷ earlier) =
+    let w = watched replicas times earlier in
     slow-step (not (x.1.view == w.view)) (is_due w x.0 x.1) (lags w x.0 x.1) w.slow (x.0 - w.looked)
-    (lagged replicas earlier) (2 ^ 64 - 1) (slow-lagged replicas earlier)
+    (lagged replicas times earlier) (2 ^ 64 - 1) (slow-lagged replicas times earlier)
 
 pub is-earned : IsEarned
-is-earned replicas earlier now p due =
-    let w = watched replicas earlier in
-    let k = slow-most w now p (lagged replicas earlier) (slow-lagged replicas earlier) in
+is-earned replicas times earlier now p due =
+    let w = watched replicas times earlier in
+    let k = slow-most w now p (lagged replicas times earlier) (slow-lagged replicas times earlier) in
     elim (or_cases _ _ due) [
       | inr c ↦ inr c
       | inl over ↦ (
-          let parts = and_parts (lags w now p) (nat_le (limit_after w p) (slow_after w now p)) over in
-          let l = leb-true (limit_after w p) (slow_after w now p) parts.1 in
+          let parts = and_parts (lags w now p) (nat_le (limit_after w now p) (slow_after w now p)) over in
+          let l = leb-true (limit_after w now p) (slow_after w now p) parts.1 in
           inl (le_trans l k))
     ]
 
@@ -91,36 +91,36 @@ on-step false false true slow passed k most h =
 on-step false false false slow passed k most h = omega arith
 
 -- what is remembered counts three times the time in which it lagged at each look
-slow-on : (replicas : ℕ) (looks : Looks)
-    → min (3 * lagged_on replicas looks) (2 ^ 64 - 1) ≤ (watched replicas looks).slow
+slow-on : (replicas times : ℕ) (looks : Looks)
+    → min (3 * lagged_on replicas times looks) (2 ^ 64 - 1) ≤ (watched replicas times looks).slow
 unfolding watched lagged_on
-slow-on replicas [] = omega arith
-slow-on replicas (x ∷ earlier) =
-    let w = watched replicas earlier in
+slow-on replicas times [] = omega arith
+slow-on replicas times (x ∷ earlier) =
+    let w = watched replicas times earlier in
     on-step (not (x.1.view == w.view)) (is_due w x.0 x.1) (lags w x.0 x.1) w.slow (x.0 - w.looked)
-    (lagged_on replicas earlier) (2 ^ 64 - 1) (slow-on replicas earlier)
+    (lagged_on replicas times earlier) (2 ^ 64 - 1) (slow-on replicas times earlier)
 
 pub is-given : IsGiven
-is-given replicas earlier now p same l h =
-    let w = watched replicas earlier in
+is-given replicas times earlier now p same l h =
+    let w = watched replicas times earlier in
     let most = 2 ^ 64 - 1 in
     let passed = now - w.looked in
     let seen : slow_after w now p ≡ min (w.slow + min (passed * 3) most) most =
     cond-false _ _ _ (not_from_true _ (eq-eqb _ _ same)) ∙ cond-true _ _ _ l in
-    let k = most-added (3 * lagged_on replicas earlier) (passed * 3) w.slow most (slow-on replicas earlier) in
-    let least = le-min {b = most} h (min-le_right (min (vain_after w p + 1) most * 1000) most) in
-    let sum : 3 * (lagged_on replicas earlier + passed) ≡ 3 * lagged_on replicas earlier + passed * 3 =
+    let k = most-added (3 * lagged_on replicas times earlier) (passed * 3) w.slow most (slow-on replicas times earlier) in
+    let least = le-min {b = most} h (min-le_right _ most) in
+    let sum : 3 * (lagged_on replicas times earlier + passed) ≡ 3 * lagged_on replicas times earlier + passed * 3 =
     omega arith in
     or_left _ _ (and_from _ _ l (le-leb _ _
-    (subst (λ (n : ℕ). limit_after w p ≤ n) (sym seen)
-    (le_trans (subst (λ (n : ℕ). limit_after w p ≤ min n most) sum least) k))))
+    (subst (λ (n : ℕ). limit_after w now p ≤ n) (sym seen)
+    (le_trans (subst (λ (n : ℕ). limit_after w now p ≤ min n most) sum least) k))))
 
 pub is-patient : IsPatient
 unfolding watched
-is-patient replicas [] = omega arith
-is-patient replicas (x ∷ earlier) =
-    let w = watched replicas earlier in
-    let old = is-patient replicas earlier in
+is-patient replicas times [] = omega arith
+is-patient replicas times (x ∷ earlier) =
+    let w = watched replicas times earlier in
+    let old = is-patient replicas times earlier in
     cond_both (moved w x.1) _ _ (λ (n : ℕ). 20 ≤ n)
     (λ t. omega arith)
     (λ f. cond_both (is_overdue w x.0 x.1) _ _ (λ (n : ℕ). 20 ≤ n)

@@ -2,7 +2,7 @@
 use Rattle.std.specs.Prelude.{ℕ, ◌+◌, ◌*◌, ◌/◌, ◌-◌, ◌^◌, ◌==◌, ◌&&◌, ◌||◌, not, min, max, nat_le, Bool}
 use Rattle.std.specs.Prelude.{if◌then◌else◌, nat_lt, false, Option, Some, None}
 use Rattle.std.specs.Option.{option_or}
-use Rattle.tuning.specs.declared.clocks.TheConstants.{COMMAND_SHARE, LAG_WEIGHT, LEAD_PART, LEAST_BEAT_MILLIS}
+use Rattle.tuning.specs.declared.clocks.TheConstants.{CALM_MILLIS, COMMAND_SHARE, LAG_WEIGHT, LEAD_PART, LEAST_BEAT_MILLIS}
 use Rattle.tuning.specs.declared.clocks.TheConstants.{LEAST_COMMAND_MILLIS, MOST_COUNTED, MOST_UNDECIDED, VIEW_LIMIT}
 use Rattle.clock.specs.declared.watch.LeadFrom.{LeadFrom}
 use Rattle.clock.specs.declared.watch.LeadFrom.TheVariants.{Certified, Lock}
@@ -14,13 +14,14 @@ use Rattle.clock.specs.declared.watch.Watch.{Watch}
 abbrev pub patience_of : ℕ → ℕ
 patience_of replicas = max (replicas * replicas * replicas / COMMAND_SHARE) LEAST_COMMAND_MILLIS
 
--- nothing was seen yet: view 0, nothing executed, and the least pause
-abbrev pub unseen : ℕ → Watch
-unseen replicas = record {
+-- nothing was seen yet: view 0, nothing executed, and the least pause. Views and commands may take so many times as long
+abbrev pub unseen : (replicas times : ℕ) → Watch
+unseen replicas times = record {
   view = 0;
   executed = 0;
   looked = 0;
-  patience = patience_of replicas;
+  patience = min (patience_of replicas * times) (2 ^ 64 - 1);
+  limit = min (VIEW_LIMIT * times) (2 ^ 64 - 1);
   slow = 0;
   asked = 0;
   pause = LEAST_BEAT_MILLIS;
@@ -30,6 +31,7 @@ unseen replicas = record {
   led = None;
   vain = 0;
   served = false;
+  calm = 0;
 }
 
 -- its view or its history changed since it was looked at last
@@ -50,11 +52,20 @@ slow_after w now p =
     else if lags w now p then min (w.slow + min ((now - w.looked) * LAG_WEIGHT) (2 ^ 64 - 1)) (2 ^ 64 - 1)
     else w.slow - (now - w.looked)
 
+-- its view has served for so long without being slow at all
+abbrev pub is_calm : Watch → ℕ → Bool
+is_calm w now = w.served && nat_le CALM_MILLIS (now - w.calm)
+
+-- since when it wasn't slow at all, or half of the views in vain were forgotten
+abbrev pub calm_after : Watch → ℕ → Pulse → ℕ
+calm_after w now p =
+    if (not (p.view == w.view) || nat_lt 0 (slow_after w now p)) || is_calm w now then now else w.calm
+
 -- So many views passed in vain: of those before the one that it is in, as far as nothing was executed in them. One in
--- which something was halves their number.
-abbrev pub vain_after : Watch → Pulse → ℕ
-vain_after w p =
-    if p.view == w.view then w.vain
+-- which something was halves their number when it ends, and while it is calm.
+abbrev pub vain_after : Watch → ℕ → Pulse → ℕ
+vain_after w now p =
+    if p.view == w.view then (if is_calm w now then w.vain / 2 else w.vain)
     else if w.served then w.vain / 2
     else min (w.vain + (p.view - w.view)) (2 ^ 64 - 1)
 
@@ -62,12 +73,13 @@ vain_after w p =
 abbrev pub served_after : Watch → Pulse → Bool
 served_after w p = (w.served && (p.view == w.view)) || not (p.executed == w.executed)
 
--- how slow a view may be: the limit, and as much more for each view that passed in vain
-abbrev pub limit_of : ℕ → ℕ
-limit_of vain = min (min (vain + 1) (2 ^ 64 - 1) * VIEW_LIMIT) (2 ^ 64 - 1)
+-- how slow a view may be: the least limit, as much more for each view that passed in vain, and for the square of half their number
+abbrev pub limit_of : (least vain : ℕ) → ℕ
+limit_of least vain =
+    min (min (min (vain + min (vain / 2 * (vain / 2)) (2 ^ 64 - 1)) (2 ^ 64 - 1) + 1) (2 ^ 64 - 1) * least) (2 ^ 64 - 1)
 
-abbrev pub limit_after : Watch → Pulse → ℕ
-limit_after w p = limit_of (vain_after w p)
+abbrev pub limit_after : Watch → ℕ → Pulse → ℕ
+limit_after w now p = limit_of w.limit (vain_after w now p)
 
 -- it lags, and has been slow for so long
 abbrev pub is_over : Watch → (now limit slow : ℕ) → Pulse → Bool
@@ -87,7 +99,7 @@ climbs w p = not (settled w p) && nat_lt (most_undecided p.view) (p.voted - w.fr
 
 -- its view is over with what is seen at this moment
 abbrev pub is_due : Watch → ℕ → Pulse → Bool
-is_due w now p = is_over w now (limit_after w p) (slow_after w now p) p || climbs w p
+is_due w now p = is_over w now (limit_after w now p) (slow_after w now p) p || climbs w p
 
 -- nothing that it proposed waits for votes, or it has just got on
 abbrev pub rests : Watch → Pulse → Bool
@@ -124,7 +136,7 @@ lead_where w now limit p is_stuck =
     then next_lead w.led (stuck_for w now) (lead_after w.patience limit) else None
 
 abbrev pub lead_of : Watch → ℕ → Pulse → Option LeadFrom
-lead_of w now p = lead_where w now (limit_after w p) p (is_stuck w now p)
+lead_of w now p = lead_where w now (limit_after w now p) p (is_stuck w now p)
 
 -- what is due
 abbrev pub due_of : Watch → ℕ → Pulse → Due
@@ -147,6 +159,7 @@ looked w now p = record {
   executed = p.executed;
   looked = now;
   patience = w.patience;
+  limit = w.limit;
   slow = if is_due w now p then 0 else slow_after w now p;
   asked = if rests w p || is_overdue w now p then now else w.asked;
   pause = pause_after w.pause (moved w p) (is_overdue w now p);
@@ -154,6 +167,7 @@ looked w now p = record {
   from = if settled w p || is_due w now p then p.voted else w.from;
   stuck = if is_stuck w now p then w.stuck else now;
   led = if is_stuck w now p then option_or (lead_of w now p) w.led else None;
-  vain = vain_after w p;
+  vain = vain_after w now p;
   served = served_after w p;
+  calm = calm_after w now p;
 }

@@ -9,7 +9,7 @@ use std::sync::atomic::AtomicBool;
 use std::sync::atomic::Ordering::SeqCst;
 use std::thread;
 use std::time::{Clock, Duration, Instant};
-use tuning::LOOK_MILLIS;
+use tuning::{FULL_LOOKS, LOOK_MILLIS};
 
 /// A replica that can be looked at, and handed what is due to it. What doesn't come to it is due again soon.
 pub trait Watched {
@@ -44,25 +44,45 @@ fn millis_since<R: Clock>(rt: &R, start: Option<Instant>) -> u64 {
     }
 }
 
-/// Looks at a replica, one of so many, each `LOOK_MILLIS` until it is told to stop, and hands in beats, timeouts,
+/// For how many looks a replica has been full, with this one, where it was given leave to forget.
+fn full_for(looks: u64, pulse: &Pulse, may_forget: bool) -> u64 {
+    if pulse.stopped == Some(Fault::Full) && may_forget {
+        looks.saturating_add(1)
+    } else {
+        0
+    }
+}
+
+/// Looks at a replica, one of so many, which may take so many times as long, each `LOOK_MILLIS` until it is told to stop, and hands in beats, timeouts,
 /// leads, and prunings that leave it so much, if it is to prune. It tells whether there is trouble.
 ///
-/// It ends where the replica has stopped, too, and tells why; where it was told to stop, it tells nothing.
+/// It ends where the replica has stopped, too, and tells why; one that is full may be so for `FULL_LOOKS` while it may
+/// forget. Where it was told to stop, it tells nothing.
 pub fn keep_time<R: Wait + Clock, W: Watched>(
     rt: &R,
     replica: &W,
     replicas: u8,
+    times: u64,
     keep: Option<Keep>,
     stop: &AtomicBool,
 ) -> Option<Fault> {
     let start = Instant::now(rt).ok();
-    let (mut watch, mut trouble) = (Watch::new(replicas), Trouble::none());
+    let (mut watch, mut trouble) = (Watch::new(replicas, times), Trouble::none());
+    let mut full = 0;
     for _ in rt.forever() {
         if stop.load(SeqCst) {
             break;
         }
         thread::sleep(rt, Duration::from_millis(LOOK_MILLIS));
         let pulse = replica.pulse(rt);
+        let forgettable = keep.and_then(|keep| prune_at(keep, &replica.shown(), &pulse));
+        if let Some(height) = forgettable {
+            replica.prune(rt, height);
+        }
+        full = full_for(full, &pulse, forgettable.is_some());
+        if 0 < full && full < FULL_LOOKS {
+            continue;
+        }
         replica.show(shown_by(pulse));
         if pulse.stopped.is_some() {
             return pulse.stopped;
@@ -71,9 +91,6 @@ pub fn keep_time<R: Wait + Clock, W: Watched>(
         let is_on = trouble.look(now, pulse.view, replica.doubted());
         replica.tell_trouble(is_on, pulse.view);
         replica.hand_in(rt, watch.look(now, pulse));
-        if let Some(height) = keep.and_then(|keep| prune_at(keep, &replica.shown(), &pulse)) {
-            replica.prune(rt, height);
-        }
     }
     None
 }

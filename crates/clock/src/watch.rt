@@ -1,14 +1,14 @@
 //! What is due to one replica.
 
 ghost use Rattle.std.specs.Prelude.{◌≡◌, ◌-◌, if◌then◌else◌};
-ghost use Rattle.clock.specs.Watching.{climbs, due_of, is_over, is_overdue, lags, lead_after, lead_where, limit_of};
+ghost use Rattle.clock.specs.Watching.{calm_after, climbs, due_of, is_calm, is_over, is_overdue, lags, lead_after, lead_where, limit_of};
 ghost use Rattle.clock.specs.Watching.{looked, most_undecided, moved, next_lead, settled, stuck_for};
 ghost use Rattle.clock.specs.Watching.{patience_of, pause_after, rests, served_after, slow_after, unseen, vain_after};
 
 use ids::{Fault, Height, View};
 use tuning::{
-    COMMAND_SHARE, LAG_WEIGHT, LEAD_PART, LEAST_BEAT_MILLIS, LEAST_COMMAND_MILLIS, MOST_COUNTED,
-    MOST_UNDECIDED, VIEW_LIMIT,
+    CALM_MILLIS, COMMAND_SHARE, LAG_WEIGHT, LEAD_PART, LEAST_BEAT_MILLIS, LEAST_COMMAND_MILLIS,
+    MOST_COUNTED, MOST_UNDECIDED, VIEW_LIMIT,
 };
 
 /// What is seen of a replica at one moment.
@@ -63,6 +63,8 @@ pub struct Watch {
     looked: u64,
     /// How many milliseconds a command may take.
     patience: u64,
+    /// How slow a view may be, where none passed in vain.
+    limit: u64,
     /// How slow its view was so far: `LAG_WEIGHT` for each millisecond in which it lagged, less one for each other.
     slow: u64,
     /// Since when a proposal of it has waited for votes, and how long that may last.
@@ -78,13 +80,20 @@ pub struct Watch {
     /// How many views passed in vain, and whether something was executed in this one.
     vain: u64,
     served: bool,
+    /// Since when its view wasn't slow at all, or half of those views were forgotten.
+    calm: u64,
 }
 
-/// How slow a view may be: `VIEW_LIMIT`, and as much more for each view that passed in vain.
-fn limit_of(vain: u64) -> u64
-    ensures { result ≡ limit_of vain }
+/// How slow a view may be, where so many passed in vain: as much more for each, and for the square of half of them, since each may
+/// have brought what was voted for higher, and a leader has to come above that.
+fn limit_of(least: u64, vain: u64) -> u64
+    ensures { result ≡ limit_of least vain }
 {
-    vain.saturating_add(1).saturating_mul(VIEW_LIMIT)
+    let half = vain / 2;
+    let more = half.saturating_mul(half);
+    vain.saturating_add(more)
+        .saturating_add(1)
+        .saturating_mul(least)
 }
 
 /// How many heights a view may bring without a decision: `MOST_UNDECIDED`, and as many more for each view before.
@@ -124,15 +133,17 @@ fn pause_after(pause: u64, moved: bool, overdue: bool) -> u64
 }
 
 impl Watch {
-    /// Nothing was seen yet of a replica, which is one of so many.
-    pub fn new(replicas: u8) -> Watch
-        ensures { result ≡ unseen replicas }
+    /// Nothing was seen yet of a replica, which is one of so many. Views and commands may take so many times as long as
+    /// where frames take no time.
+    pub fn new(replicas: u8, times: u64) -> Watch
+        ensures { result ≡ unseen replicas times }
     {
         Watch {
             view: View(0),
             executed: 0,
             looked: 0,
-            patience: patience_of(replicas),
+            patience: patience_of(replicas).saturating_mul(times),
+            limit: VIEW_LIMIT.saturating_mul(times),
             slow: 0,
             asked: 0,
             pause: LEAST_BEAT_MILLIS,
@@ -142,6 +153,7 @@ impl Watch {
             led: None,
             vain: 0,
             served: false,
+            calm: 0,
         }
     }
 
@@ -178,13 +190,37 @@ impl Watch {
         }
     }
 
+    /// Whether its view has served for so long without being slow at all.
+    fn is_calm(&self, now: u64) -> bool
+        ensures { result ≡ is_calm self.now now }
+    {
+        self.served && now.saturating_sub(self.calm) >= CALM_MILLIS
+    }
+
+    /// Since when its view wasn't slow at all, or half of the views in vain were forgotten.
+    fn calm_after(&self, now: u64, pulse: Pulse) -> u64
+        ensures { result ≡ calm_after self.now now pulse }
+    {
+        let is_slow = pulse.view.0 != self.view.0 || self.slow_after(now, pulse) > 0;
+        if is_slow || self.is_calm(now) {
+            now
+        } else {
+            self.calm
+        }
+    }
+
     /// How many views passed in vain before the one that it is in. One in which something was executed halves their
-    /// number: else a server at which a faulty party ends views would bear slow ones more and more.
-    fn vain_after(&self, pulse: Pulse) -> u64
-        ensures { result ≡ vain_after self.now pulse }
+    /// number when it ends, and while it is calm: else a server at which a faulty party ends views would bear slow ones
+    /// more and more.
+    fn vain_after(&self, now: u64, pulse: Pulse) -> u64
+        ensures { result ≡ vain_after self.now now pulse }
     {
         if pulse.view.0 == self.view.0 {
-            self.vain
+            if self.is_calm(now) {
+                self.vain / 2
+            } else {
+                self.vain
+            }
         } else if self.served {
             self.vain / 2
         } else {
@@ -287,8 +323,8 @@ impl Watch {
         ensures watch { self.new ≡ looked self.old now pulse }
     {
         let (moved, slow) = (self.has_moved(pulse), self.slow_after(now, pulse));
-        let vain = self.vain_after(pulse);
-        let limit = limit_of(vain);
+        let vain = self.vain_after(now, pulse);
+        let limit = limit_of(self.limit, vain);
         let over = self.is_over(now, limit, slow, pulse) || self.climbs(pulse);
         let (rests, overdue) = (self.rests(pulse), self.is_overdue(now, pulse));
         let counts_anew = self.is_settled(pulse) || over;
@@ -299,6 +335,7 @@ impl Watch {
             executed: pulse.executed,
             looked: now,
             patience: self.patience,
+            limit: self.limit,
             slow: if over { 0 } else { slow },
             asked: if rests || overdue { now } else { self.asked },
             pause: pause_after(self.pause, moved, overdue),
@@ -308,6 +345,7 @@ impl Watch {
             led: if stuck { lead.or(self.led) } else { None },
             vain,
             served: self.served_after(pulse),
+            calm: self.calm_after(now, pulse),
         };
         Due {
             beat: pulse.wants_beat_now || overdue,

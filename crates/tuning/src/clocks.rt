@@ -29,6 +29,10 @@ pub const LAG_WEIGHT: u64 = 3;
 /// ends after a third of a second, the next one after two thirds. Less: correct leaders are replaced while they catch up.
 pub const VIEW_LIMIT: u64 = 1000;
 
+/// Milliseconds of service that isn't slow after which half of the views in vain are forgotten. Shorter: a slow machine begins
+/// anew with short views. Longer: the next fault costs more behind a noisy start.
+pub const CALM_MILLIS: u64 = 2000;
+
 /// Heights that a view may bring without a decision, times one more than its number, before it ends: twice as many as a
 /// proposal may climb, and so more than a correct leader needs. More: a leader that nobody waits for fills the trees of
 /// all with blocks that are never decided.
@@ -46,6 +50,10 @@ pub const LEAD_PART: u64 = 4;
 /// Which part of its window a replica holds beyond it before it is asked to forget: one in so many. A smaller part: it
 /// is asked more often.
 pub const WINDOW_SLACK: u64 = 8;
+
+/// Looks for which a replica that is full is waited for, where it was given leave to forget. More: one that can't forget is
+/// told of later. Fewer: one whose workers have much to do stops, though it would have had room again.
+pub const FULL_LOOKS: u64 = 250;
 
 /// Heights that a replica keeps for others that are behind, at most, times the number of replicas: a height takes about as
 /// many times more among many. Four replicas that serve 64 connections fill 80 MB each. More: one that is frozen costs all

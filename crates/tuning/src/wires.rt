@@ -41,6 +41,12 @@ pub const FRONT_BACKLOG_BYTES: usize = 16_777_216;
 /// Milliseconds between two times that a replica tells the others how far it is. Fewer: more frames. More: clocks see others later.
 pub const TELL_MILLIS: u64 = 20;
 
+/// Milliseconds between two looks into a state directory, at what is asked there. Fewer: more work. More: answers come later.
+pub const ASK_LOOK_MILLIS: u64 = 200;
+
+/// Looks for which who asks waits for an answer. Fewer: a busy process seems to be none. More: it is told later that there is none.
+pub const ASK_LOOKS: u64 = 100;
+
 /// Numbers that a front marks ahead of those that its clients give. Fewer: the disk is waited for more often. More: nothing but
 /// higher numbers after a restart.
 pub const NUMBERS_AHEAD: u64 = 1_048_576;
