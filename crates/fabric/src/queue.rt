@@ -173,6 +173,15 @@ impl Queue {
         }
     }
 
+    /// Takes out all frames that lack this block.
+    pub(crate) fn lose_for(&mut self, block: &Digest) {
+        for _ in 0..MOST_WAITING_FRAMES {
+            if self.take_for(block).is_none() {
+                break;
+            }
+        }
+    }
+
     /// Takes out the oldest frame.
     fn drop_oldest(&mut self)
         ensures { self.new ≤ self.old - 1 }

@@ -182,7 +182,7 @@ impl<'a, G: Gate, O: Outgoing + Questioned + Recording> Worker<'a, G, O> {
     }
 
     /// Brings the frames that lack this block, which the replica has by now, and those that lack a
-    /// block that one of them brought.
+    /// block that one of them brought. Those for which memory is refused are lost, as on any network.
     fn release<R: Wait + Clock, S: Steps>(
         &mut self,
         rt: &R,
@@ -201,7 +201,9 @@ impl<'a, G: Gate, O: Outgoing + Questioned + Recording> Worker<'a, G, O> {
             let Some(frame) = self.room.take_for(rt, &block) else {
                 continue;
             };
-            let _refused = known.push(block);
+            if known.push(block).is_err() {
+                self.room.lose_for(rt, &block);
+            }
             let brought = self.bring(rt, steps, share, frame.number, &frame.bytes);
             if brought.is_ok() {
                 latest = frame.brings.block();

@@ -206,6 +206,13 @@ impl WaitingRoom {
         frame
     }
 
+    /// Frames that lack this block are lost.
+    pub(crate) fn lose_for<R: Wait>(&self, rt: &R, block: &Digest) {
+        let mut queue = self.queue.lock(rt);
+        queue.lose_for(block);
+        self.tell(queue.len());
+    }
+
     /// The frame of this number, where it waits. It waits no longer.
     pub(crate) fn take_number<R: Wait>(&self, rt: &R, number: u64) -> Option<Waiting> {
         let mut queue = self.queue.lock(rt);

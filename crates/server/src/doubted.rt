@@ -1,10 +1,9 @@
 //! What is told of certificates that replicas doubt.
 
 use ids::MOST_REPLICAS;
-use log::{Log, warn};
+use log::Log;
 use station::Station;
 use std::sync::Wait;
-use tuning::WARNING_PAUSE_SECONDS;
 
 /// From which second on doubts of each replica may be told.
 #[derive(Clone, Copy)]
@@ -25,22 +24,8 @@ impl Doubted {
         for station in stations {
             let place = usize::from(station.number().0);
             if let Some(again) = self.again.get(place).copied() {
-                self.again[place] = ask(rt, station, again, second);
+                self.again[place] = station.warn_of_doubts(rt, again, second);
             }
         }
     }
-}
-
-/// From when on doubts of the replica at a station may be told, after it was asked in this second.
-fn ask<R: Wait + Log>(rt: &R, station: &Station<'_>, again: u64, second: u64) -> u64 {
-    if second < again {
-        return again;
-    }
-    let Some(doubt) = station.take_doubt(rt) else {
-        return again;
-    };
-    let (number, sender) = (station.number().0, doubt.sender.0);
-    warn!(rt; "replica {number} doubts certificates of replica {sender}: votes in them aren't right for it, of \
-        replicas{doubt}");
-    second.saturating_add(WARNING_PAUSE_SECONDS)
 }

@@ -34,6 +34,11 @@ moves (input.Lead block) = true
 moves (input.SeenView tagged) = true
 moves other = false
 
+-- leave to forget
+abbrev pub takes_none : Input → Bool
+takes_none (input.Prune height) = true
+takes_none other = false
+
 -- leave to propose
 abbrev pub is_beat : Input → Bool
 is_beat input.Beat = true

@@ -173,6 +173,7 @@ pub fn build_station<'a>(
         number,
         locked: Mutex::new(guarded),
         keep: terms.keep(config),
+        patience: terms.patience,
         ended: AtomicU64::new(0),
         doubts: Doubts::none(),
         trouble: TroubleSign::none(),

@@ -21,7 +21,7 @@ use std::sync::{Mutex, Wait};
 
 /// What was found of a frame whose own tag is right for a replica, and whose certificate isn't.
 #[derive(Clone, Copy)]
-pub struct Doubt {
+pub(crate) struct Doubt {
     /// Who sent it.
     pub sender: ReplicaId,
     /// Whose votes aren't right.

@@ -1,6 +1,6 @@
 //! A replica, its doorkeeper, and how many blocks it may hold.
 
-ghost use Rattle.std.specs.Prelude.{◌≡◌, ◌<◌, ◌-◌, ◌⊎◌, ◌&&◌, Err, IsTrue, MatchBool, MatchOption, length, nat_lt, not, if◌then◌else◌};
+ghost use Rattle.std.specs.Prelude.{◌≡◌, ◌<◌, ◌-◌, ◌⊎◌, ◌&&◌, ◌||◌, Err, IsTrue, MatchBool, MatchOption, length, nat_lt, not, if◌then◌else◌};
 ghost use Rattle.std.specs.Bool.{OnFalse, OnTrue};
 ghost use Rattle.ids.specs.declared.fault.Fault.TheVariants.{Full, Crowded, Memory};
 ghost use Rattle.definitions.specs.Chronicles.{horizon, window};
@@ -52,6 +52,13 @@ fn moves(input: &Input<'_>) -> bool
             | Input::Lead(_)
             | Input::SeenView(_)
     )
+}
+
+/// Whether an input comes in where all room is taken: leave to forget.
+fn takes_none(input: &Input<'_>) -> bool
+    ensures { result ≡ guarding.takes_none input.now }
+{
+    matches!(input, Input::Prune(_))
 }
 
 /// The digest of the block that an input brings.
@@ -262,7 +269,8 @@ impl<'a> Guarded<'a> {
     }
 }
 
-/// Each step is one of the replica, or is refused: with `Full` where it holds as many blocks as it may; with `NotMine`
+/// Each step is one of the replica, or is refused: with `Full` where it holds as many blocks as it may, unless it is to
+/// forget; with `NotMine`
 /// for a beat of a replica that doesn't lead; with `BadHeight` for a block that climbs too far; with
 /// `WrongJustify` for a proposal that it would vote for, of which a block justifies one below the lock; and for a block that
 /// doesn't stand yet and that the doorkeeper doesn't let in with `Crowded`, or with `Memory` where it couldn't be counted. A
@@ -272,7 +280,7 @@ impl<'a> Guarded<'a> {
 /// clock sends it again.
 impl<'a> UnderLock for Guarded<'a> {
     ghost made = { λ old share input answer new share'.
-        MatchBool (nat_lt (length (window old.kept.replica.chronicle)) old.most_blocks)
+        MatchBool (nat_lt (length (window old.kept.replica.chronicle)) old.most_blocks || guarding.takes_none input)
         (MatchOption (guarding.refusal old.kept input)
         ((WholeStep old.kept share input answer new.kept share' ⊎ IsKeptOut old.kept share input answer new.kept share')
         × (new.is_out ≡ guarding.out_after old.is_out input answer))
@@ -284,7 +292,7 @@ impl<'a> UnderLock for Guarded<'a> {
         && (not (guarded.is_out && guarding.asks_for_proposal prompt) && heeding.heeds guarded.kept prompt) };
 
     fn step(&mut self, share: &mut Share, input: Input<'_>) -> Result<Out, Fault> {
-        if !self.has_room() {
+        if !self.has_room() && !takes_none(&input) {
             return Err(Fault::Full);
         }
         if let Some(fault) = self.refusal(&input) {

@@ -21,9 +21,8 @@ mod worker;
 mod working;
 
 pub use building::{build_station, stations};
-pub use doubts::Doubt;
 pub use sights::Sights;
-pub use station::{Progress, Station};
+pub use station::{Looking, Progress, Station};
 pub use terms::{Liars, Terms, Workers};
 pub use timed::watch;
 pub use worker::WorkerStart;

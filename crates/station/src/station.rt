@@ -3,7 +3,7 @@
 ghost use Rattle.std.specs.Prelude.{◌≡◌};
 
 use crate::comeback::Comeback;
-use crate::doubts::{Doubt, Doubts};
+use crate::doubts::Doubts;
 use crate::guarded::Guarded;
 use crate::passed_over::PassedOver;
 use crate::recorder::Recorder;
@@ -12,10 +12,13 @@ use clock::Keep;
 use fabric::{Inbox, WaitingRoom};
 use ids::{Height, ReplicaId, View};
 use locked_replica::Kept;
+use log::{Log, warn};
+use replica::Replica;
 use std::marker::Model;
 use std::sync::atomic::AtomicU64;
 use std::sync::atomic::Ordering::SeqCst;
 use std::sync::{Arc, Mutex, MutexGuard, Wait};
+use tuning::WARNING_PAUSE_SECONDS;
 
 /// How far a replica is.
 #[derive(Clone, Copy, Debug)]
@@ -35,6 +38,19 @@ pub struct Progress {
     pub is_away: bool,
 }
 
+/// A station's replica, for as long as it is looked at: its workers wait meanwhile.
+#[derive(Drop)]
+pub struct Looking<'s, 'a> {
+    guarded: MutexGuard<'s, Guarded<'a>>,
+}
+
+impl Looking<'_, '_> {
+    /// The replica.
+    pub fn replica(&self) -> &Replica {
+        self.guarded.replica()
+    }
+}
+
 /// A replica under its lock, behind its doorkeeper, and where what is for it comes out.
 #[derive(Drop)]
 pub struct Station<'a> {
@@ -42,6 +58,8 @@ pub struct Station<'a> {
     pub(crate) locked: Mutex<Guarded<'a>>,
     /// How much it keeps, if it is to forget.
     pub(crate) keep: Option<Keep>,
+    /// How many times as long as on one machine views and commands may take.
+    pub(crate) patience: u64,
     /// One more than the last view that its clock ended, 0 where there is none.
     pub(crate) ended: AtomicU64,
     pub(crate) doubts: Doubts,
@@ -91,6 +109,13 @@ impl<'a> Station<'a> {
         }
     }
 
+    /// The replica, once nobody works at it.
+    pub fn look<R: Wait>(&self, rt: &R) -> Looking<'_, 'a> {
+        Looking {
+            guarded: self.locked.lock(rt),
+        }
+    }
+
     /// The lowest height of a frame that it recorded for others; the greatest of all where there is none.
     pub fn recorded<R: Wait>(&self, rt: &R) -> Height {
         self.recorder.lowest(rt)
@@ -101,9 +126,19 @@ impl<'a> Station<'a> {
         self.comeback.foremost()
     }
 
-    /// What it doubted since it was asked for last, if anything. It is asked for the next.
-    pub fn take_doubt<R: Wait>(&self, rt: &R) -> Option<Doubt> {
-        self.doubts.take(rt)
+    /// Warns of certificates that it doubts, once a minute at most: from which second on it may do so again, where that was from
+    /// this second on.
+    pub fn warn_of_doubts<R: Wait + Log>(&self, rt: &R, again: u64, second: u64) -> u64 {
+        if second < again {
+            return again;
+        }
+        let Some(doubt) = self.doubts.take(rt) else {
+            return again;
+        };
+        let (number, sender) = (self.number.0, doubt.sender.0);
+        warn!(rt; "replica {number} doubts certificates of replica {sender}: votes in them aren't right for it, of \
+            replicas{doubt}");
+        second.saturating_add(WARNING_PAUSE_SECONDS)
     }
 
     /// Whether its clock found this view or a later one too slow.

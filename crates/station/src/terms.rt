@@ -67,6 +67,8 @@ pub struct Terms {
     pub late: Option<Height>,
     /// How many workers each replica has.
     pub workers: Workers,
+    /// How many times as long as on one machine views and commands may take, before a leader is replaced.
+    pub patience: u64,
     /// Each how many seconds a line is logged that tells how it goes. None for no lines.
     pub watch: Option<u64>,
     /// The secret by which the replicas' caches hash keys.

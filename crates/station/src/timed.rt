@@ -154,5 +154,6 @@ pub fn watch<R: Wait + Clock>(
     stop: &AtomicBool,
 ) -> Option<Fault> {
     let timed = Timed { station, sights };
-    keep_time(rt, &timed, sights.config().n(), station.keep, stop)
+    let replicas = sights.config().n();
+    keep_time(rt, &timed, replicas, station.patience, station.keep, stop)
 }
