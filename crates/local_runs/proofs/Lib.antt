@@ -1,0 +1,7 @@
+mod Told
+mod Moves
+mod Joined
+mod Views
+mod Alone
+mod Bytes
+mod Forged
