@@ -23,7 +23,7 @@ use Rattle.recovery.specs.NeverWedged.{AheadOf}
 use Rattle.recovery.specs.Views.{OnlyViewMoved}
 
 -- There is a place for this block over this parent: the parent stands in the tree, the block justifies one below
--- itself that isn't pruned, and no limit is met.
+-- itself that isn't pruned, and no limit is reached.
 pub record HasPlace (c : Chronicle) (b : Block) (parent : Branch) : Type 0 where
   pub stands : Among parent (window c)
   pub below : b.justify < suc (length parent)
@@ -37,13 +37,13 @@ abbrev pub IsHolder : World → Branch → ℕ × Admitted → Type 0
 IsHolder w x h =
     (is_correct w h.0 ≡ true) × Among h.1 (taken_blocks (chronicle_of w h.0)) × (h.1.branch ≡ x)
 
--- what was checked passes, and comes to a step by which the replica takes this block, if it doesn't stand there
+-- what was checked passes, and comes to a step by which the replica takes this block
 abbrev pub IsTaken : World → ℕ → Checked → Branch → Type 0
 IsTaken w u checked x =
     (i : Input) × (a : Admitted) × (checked ≡ passes i)
     × (ruling (self_of w u) i (chronicle_of w u) ≡ due (took_block a)) × (a.branch ≡ x)
 
--- A correct replica takes a block of which it gathers the copies of more than f other correct ones, whatever their
+-- A correct replica takes a block of which it gathers the copies of more than f correct ones, whatever their
 -- certificates, where there is a place for it.
 abbrev pub CopiesAreTaken : Type 0
 CopiesAreTaken =
@@ -53,7 +53,7 @@ CopiesAreTaken =
     → IsTaken w u
     (check_gathered (self_of w u) (map (λ h. block_frame (self_of w h.0) u h.1) holders)) (b ∷ parent)))
 
--- a replica was only asked for blocks: it is as it was
+-- a replica is as it was, also in its view
 abbrev pub OnlyAsked : Identity → Chronicle → Chronicle → Type 0
 OnlyAsked self before now =
     OnlyViewMoved self before now × (view self.sizes now ≡ view self.sizes before)
@@ -68,7 +68,7 @@ pub record OnlyTook (self : Identity) (x : Branch) (before now : Chronicle) : Ty
   pub no_vote : taken.voted ≡ false
   pub new_or_there : (taken.new ≡ true) ⊎ ((taken.new ≡ false) × Among x (window asked))
 
--- A replica fetched a block: no event was refused by the run, all go on, the block stands with it, and the others were
+-- A replica fetched a block: the run names only what is there, all go on, the block stands with it, and the others were
 -- only asked.
 pub record IsFetched (w last : World) (u : ℕ) (x : Branch) : Type 0 where
   pub ran : run w (fetch_block (digest_of x) u w) ≡ Ok last
@@ -94,8 +94,8 @@ MissingBlocksAreFetched =
     (u : ℕ) (b : Block) (parent : Branch) → AheadOf (fetch_block (digest_of (b ∷ parent)) u) (λ w.
     MayFetch w u b parent → IsFetched w (after w (fetch_block (digest_of (b ∷ parent)) u w)) u (b ∷ parent))
 
--- A replica gained blocks of this branch alone, above all that it had executed, one of a height at most; but for what
--- follows from these, it is as it was.
+-- A replica gained blocks of this branch alone, no more than lie above what it had executed, and one of a height at most. Its
+-- view, its votes and its horizon are as they were, and it lost no block.
 pub record OnlyGained (self : Identity) (x : Branch) (before now : Chronicle) : Type 0 where
   pub in_view : view self.sizes now ≡ view self.sizes before
   pub voted : voted_blocks now ≡ voted_blocks before
@@ -106,7 +106,7 @@ pub record OnlyGained (self : Identity) (x : Branch) (before now : Chronicle) : 
   pub heights : (h : ℕ)
       → count_by (λ y. length y == h) (window now) ≤ suc (count_by (λ y. length y == h) (window before))
 
--- a block of this height is in reach of a replica: it isn't pruned with it
+-- a block of this height is in reach of a replica: it lies above all that is pruned there
 abbrev pub IsInReach : Chronicle → Branch → Type 0
 IsInReach c x = horizon c ≤ length x + BELOW_HORIZON
 
@@ -118,7 +118,7 @@ pub record CanGet (w : World) (c : Chronicle) (b : Block) (parent : Branch) : Ty
   pub uncrowded : count_by (λ x. length x == suc (length parent)) (window c) < MOST_OF_HEIGHT
   pub many : w.sizes.faults < correct_with w window (b ∷ parent)
 
--- What is known where a branch is brought to all: a correct replica took it, each has a block of it that is in its
+-- What is assumed where a branch is brought to all: a correct replica took it, each has a block of it that is in its
 -- reach, or can get it, and there is room for so many with each.
 pub record MayBring (w : World) (x : Branch) : Type 0 where
   pub keys : ShareKeys w
@@ -136,7 +136,7 @@ pub record MayBring (w : World) (x : Branch) : Type 0 where
 abbrev pub HasReached : Chronicle → Branch → Type 0
 HasReached c x = (y : Branch) → Extends x y → IsInReach c y → Among y (window c)
 
--- No event was refused by the run, and all correct replicas go on. Each has the branch, as far as it is in its reach,
+-- The run names only what is there, and all correct replicas go on. Each has the branch, as far as it is in its reach,
 -- and gained nothing else; who had it was only asked.
 pub record IsBrought (w last : World) (x : Branch) : Type 0 where
   pub ran : run w (fetch_all (lowest_first x) w) ≡ Ok last

@@ -1,5 +1,6 @@
--- Healing: events of correct parties alone, computed from a world, that bring a waiting client its receipt. Nobody has
--- to know who lies, nor why nothing went on: the correct replica of the highest lock leads from that lock.
+-- Healing: events of correct parties alone, with memory granted, that bring a waiting client its receipt. They are computed
+-- by one who sees the whole world, also who is faulty; why nothing went on needn't be known. The correct replica of the highest
+-- lock leads from that lock.
 use Rattle.std.specs.Prelude.{ℕ, zero, suc, ◌+◌, ◌-◌, ◌%◌, ◌==◌, not, Bool, true, false, List, [], ◌∷◌, ◌++◌}
 use Rattle.std.specs.Prelude.{map, filter}
 use Rattle.std.specs.Prelude.{find, reverse, length, drop, if◌then◌else◌, nat_lt, max, Option, Some, None}
@@ -127,7 +128,8 @@ abbrev pub justified_by : Option Admitted → Branch
 justified_by None = []
 justified_by (Some a) = just1 a.branch
 
--- a certified block that justifies a replica's lock: by the oldest block that it took over such a one
+-- The block that justifies a replica's lock: the one that is justified by the oldest block that it took, of those whose
+-- second justified block is the lock. Genesis if there is none.
 abbrev pub over_lock : ℕ → World → Branch
 over_lock l w =
     justified_by (find (λ a. branch_eq (just2 a.branch) (lock_of w l))
@@ -137,8 +139,8 @@ over_lock l w =
 abbrev pub newcomers : World → List ℕ → List ℕ
 newcomers w rs = filter (λ r. length (taken_blocks (chronicle_of w r)) == 0) rs
 
--- Genesis has grounds with who took any block. So where genesis justifies a leader's lock, it makes a block there. That
--- comes to all that never took one, as genesis's certificate is good for all.
+-- Who took any block may take one that justifies genesis, whatever its certificate. So where nothing above genesis justifies a
+-- leader's lock, it makes a block on genesis, which comes to those that never took one: genesis's certificate is good for all.
 unfoldable pub make_first : ℕ → Phase
 make_first l w =
     if length (over_lock l w) == 0
@@ -157,7 +159,7 @@ unfoldable pub lowest_first : Branch → List Branch
 lowest_first [] = []
 lowest_first (b ∷ parent) = lowest_first parent ++ (b ∷ parent) ∷ []
 
--- a replica asks another one for a block, and its question comes there
+-- a replica asks one for a block, and its question comes there
 unfoldable pub ask_one : Bytes → ℕ → ℕ → Phase
 ask_one d u r w =
     in_turn ((λ v. amply (ask u r d ∷ []))

@@ -45,19 +45,20 @@ tags_within self (frame.vote d b) = vote_claims self (record { digest = d; votes
 tags_within self (frame.request c) = map (command_claim self) (filter (command_verifies self) (c ∷ []))
 tags_within self f = []
 
--- each of these that names a correct party was sent by it before, whichever correct replica it is for
+-- each of these tags, of votes and of commands, that names a correct party was sent by it before, whichever correct replica it is
+-- for
 abbrev pub ForgesForNobody : World → Frame → Type 0
 ForgesForNobody w f =
     OfCorrect w (λ r. (x : Claim) → Among x (tags_within (self_of w r) f) → w.is_faulty x.sender ≡ false
     → WasSent w.sent x)
 
--- no event of a run invents a frame with a tag that is forged for anybody
+-- no event of a run invents a frame with a vote's or a command's tag that is forged for a correct replica
 abbrev pub NothingForgedInvented : World → List Happening → Type 0
 NothingForgedInvented w [] = ⊤
 NothingForgedInvented w (h ∷ hs) =
     ((f : Frame) → Among f (invented h.0) → ForgesForNobody w f) × NothingForgedInvented (happens w h) hs
 
--- So healing forges nothing, after any run that forged nothing. It invents no bytes either.
+-- So healing forges nothing, after any run that forged nothing: the premises on reading and on forging hold of both.
 abbrev pub HealingForgesNothing : Type 0
 HealingForgesNothing =
     (k client : ℕ) (sizes : Sizes) (is_faulty : ℕ → Bool) (ring : ℕ → Keyring) (hs : List Happening) (w : World)

@@ -20,8 +20,8 @@ use Rattle.recovery.specs.NeverWedged.{AheadOf, healer, ground_of, NobodyPruned}
 
 -- ---- locks
 
--- No correct replica's lock is above this block, nor beside it. So each may vote for any block that justifies it,
--- higher than what it voted for.
+-- Each correct replica's lock is this block, or lower. So any block that justifies it is safe for each, above what that one
+-- voted for.
 pub record IsSafeForAll (w : World) (m : Branch) : Type 0 where
   pub locks : OfCorrect w (λ r. (lock_of w r ≡ m) ⊎ (length (lock_of w r) < length m))
   pub votes : OfCorrect w (λ r. (x : Branch) → just1 x ≡ m → vheight (chronicle_of w r) < length x
@@ -42,7 +42,7 @@ LocksMayBeLedFrom =
 abbrev pub lead_events : ℕ → World → List Happening
 lead_events l w = amply (lead l (digest_of (lock_of w l)) ∷ [])
 
--- It leads from there: its leaf and its highest certificate are on its lock, and no request waits with it.
+-- It leads from there: its leaf, and the block of its highest certificate, are this one, and no request waits with it.
 pub record LeadsFrom (w last : World) (l : ℕ) (m : Branch) : Type 0 where
   pub ran : run w (lead_events l w) ≡ Ok last
   pub goes_on : (last.replica l).standing ≡ running

@@ -1,5 +1,9 @@
--- Never wedged: whatever at most f faulty replicas and any clients did in a run, healing brings a waiting correct
--- client its receipt. It says nothing of time: that such events come about isn't claimed.
+-- Never wedged: from the end of any run, whatever at most f faulty replicas and any clients did in it, one schedule that is
+-- computed from the world brings a waiting correct client its receipt: `Healing.heal`, of correct parties' events alone. Each
+-- correct replica has to run still, with room left in its tree; that a faulty one can't use that up is the server's doorkeeper's
+-- to see to. It says nothing of time: that such events come about, and without others in between, isn't claimed.
+--
+-- Who reads the statement needs this file, `Healing` and `Correct`. The others have its steps.
 use Rattle.ids.specs.declared.limits.TheConstants.{MOST_BLOCKS, MOST_OF_HEIGHT, HEIGHT_LIMIT, BELOW_HORIZON}
 use Rattle.std.specs.Prelude.{ℕ, ◌+◌, ◌-◌, ◌^◌, ◌≡◌, ◌<◌, ◌≤◌, ◌==◌, ◌⊎◌, true, false, Bool, List, [], ◌∷◌}
 use Rattle.std.specs.Prelude.{◌++◌, length}
@@ -22,7 +26,7 @@ use Rattle.recovery.specs.Correct.{correct_with, amply}
 use Rattle.linear_law.specs.Law.{AfterEachRun}
 use Rattle.recovery.specs.Healing.{Phase, highest_locked, highest_voted, over_lock, heal}
 
--- P holds of each world in which a run ends, where the run's premises hold, and hold of this phase after it
+-- P holds of each world in which a run ends, where the premises hold of the run that this phase is behind
 abbrev pub AheadOf : Phase → (World → Type 0) → Type 0
 AheadOf phase P =
     (sizes : Sizes) (is_faulty : ℕ → Bool) (ring : ℕ → Keyring) (hs : List Happening) (w : World)
@@ -37,11 +41,12 @@ healer w = highest_locked w (correct_replicas w)
 abbrev pub ground_of : World → Branch
 ground_of w = over_lock (healer w) w
 
--- a correct replica's views aren't spent: there are so many more as there are replicas
+-- a correct replica's view is more than n below the greatest of all
 abbrev pub HasViews : World → Type 0
 HasViews w = OfCorrect w (λ r. view_of w r + replicas w.sizes < 2 ^ 64)
 
--- how many blocks healing makes, at most
+-- how many blocks healing makes, at most: those above all votes, two more since who begins may vote at height 1, three that
+-- decide, and one on genesis
 abbrev pub blocks_made : World → ℕ
 blocks_made w = (highest_voted w (correct_replicas w) - length (lock_of w (healer w))) + 6
 
@@ -56,20 +61,20 @@ pub record HasRoom (w : World) : Type 0 where
       → count_by (λ x. length x == h) (window (chronicle_of w r)) + 2 ≤ MOST_OF_HEIGHT)
   pub low : length (lock_of w (healer w)) + blocks_made w < HEIGHT_LIMIT
 
--- no correct replica has forgotten any block
+-- no correct replica was given leave to forget
 abbrev pub NobodyPruned : World → Type 0
 NobodyPruned w = OfCorrect w (λ r. horizon (chronicle_of w r) ≡ 0)
 
--- Each correct replica voted carefully, and none is left behind: what it lacks below the leader's lock, in its own
--- reach, more than f correct ones still have.
+-- Each correct replica voted carefully, as the running server's do, and none is left behind: what it lacks up to the block
+-- that justifies the leader's lock, in its own reach, more than f correct ones still have.
 pub record PrunedWell (w : World) : Type 0 where
   pub careful : OfCorrect w (λ r. AreCareful (chronicle_of w r))
   pub held : OfCorrect w (λ r. (x : Branch) → Extends (ground_of w) x
       → horizon (chronicle_of w r) ≤ length x + BELOW_HORIZON
       → Among x (window (chronicle_of w r)) ⊎ (w.sizes.faults < correct_with w window x))
 
--- What is known where a world is healed: correct replicas share keys, and go on; views and room are left; and nobody
--- pruned what others lack.
+-- What is assumed of a world that is to be healed: correct parties share keys, and all correct replicas go on; views and room
+-- are left; and nobody pruned what others lack.
 pub record MayHeal (w : World) : Type 0 where
   pub keys : ShareKeys w
   pub goes : AllGoOn w
@@ -106,13 +111,13 @@ abbrev pub IsAnswered : World → ℕ → ℕ → Type 0
 IsAnswered w client seq =
     (r : AcceptedBy) × Among r w.receipts × (r.client ≡ client) × (r.receipt.seq ≡ seq)
 
--- healing is refused no event, all go on, and the client has its receipt
+-- healing names only parties and frames that are there, all correct replicas go on, and the client has its receipt
 abbrev pub HealingAnswers : (k client : ℕ) → World → Type 0
 HealingAnswers k client w =
     (last : World) × (run w (heal k w) ≡ Ok last) × AllGoOn last × IsAnswered last client (w.session client).used
 
--- After any run whose premises hold, and hold of what heals it: where each correct replica goes on, views and room
--- are left, and nobody pruned what others lack, healing answers the client.
+-- After any run whose premises hold, together with what heals it: where the world may be healed, and frame k is what a
+-- correct client that waits asked, healing answers that client.
 abbrev pub NeverWedged : Type 0
 NeverWedged =
     (k client : ℕ) → AheadOf (heal k) (λ w. AreSizes w.sizes → MayHeal w → IsAsked w k client

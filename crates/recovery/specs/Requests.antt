@@ -14,7 +14,8 @@ use Rattle.recovery.specs.Rounds.{Carries}
 
 -- ---- a request
 
--- No event was refused by the run, and all correct replicas go on. Each executed this request, now or before.
+-- The run names only what is there, and all correct replicas go on. Each executed a command of this request's client and
+-- number, now or before.
 pub record IsExecutedByAll (w last : World) (k : ℕ) (c : Command) : Type 0 where
   pub ran : run w (agree_on k w) ≡ Ok last
   pub going_on : AllGoOn last

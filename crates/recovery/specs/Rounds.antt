@@ -30,8 +30,8 @@ use Rattle.recovery.specs.Fetching.{HasPlace}
 
 -- ---- blocks of a leader
 
--- A replica may vote for this block over this parent in this view: it is in that view, the block is safe for it, and
--- all is clear down to what the block justifies.
+-- A replica may vote for this block over this parent in this view: it is in that view, the block is safe for it, the block's
+-- commands verify for it, and so do those below it, down to what the block justifies.
 pub record MayVoteFor (w : World) (u v : ℕ) (b : Block) (parent : Branch) : Type 0 where
   pub in_view : view_of w u ≡ v
   pub safe : is_safe (b ∷ parent) (chronicle_of w u) ≡ true
@@ -68,7 +68,7 @@ ProposalsAreTaken =
     ⊎ IsTakenIn w u v (check (self_of w u) f) b parent)
     × IsTakenIn w u v (check_offer (self_of w u) f) b parent))
 
--- A replica is in this view, knows y, which goes through m, and may vote for a block over y that justifies m: m has
+-- A replica is in this view, knows y, which goes through m, and a block over y that justifies m is safe for it: m has
 -- grounds, the lock is m or lower, and all is clear down to m. There is room for so many blocks more.
 pub record Climbs (self : Identity) (v : ℕ) (m y : Branch) (room : ℕ) (c : Chronicle) : Type 0 where
   pub in_view : view self.sizes c ≡ v
@@ -107,7 +107,7 @@ pub record MayBurst (w : World) (l v n room : ℕ) (m : Branch) : Type 0 where
   pub some : 0 < n
   pub top : length m + n < HEIGHT_LIMIT
 
--- a command of this name stands on the branch
+-- a command of this client and number stands on the branch
 abbrev pub Carries : Branch → Command → Type 0
 Carries x c = list_any (λ e. (e.client == c.client) && (e.seq == c.seq)) (history_of x) ≡ true
 
@@ -117,7 +117,7 @@ CarriesWaiting w l x =
     (c : Command) → Among c (pending (chronicle_of w l)) → length (pending (chronicle_of w l)) ≤ MOST_COMMANDS
     → Carries x c
 
--- No event of a burst was refused by the run, and all correct replicas go on. Each voted for the last block, which is n
+-- A burst names only what is there, and all correct replicas go on. Each voted for the last block, which is n
 -- higher than m and goes through it, justifies it, and carries what waited; and which is the leader's leaf; and each
 -- could climb on, with so much room.
 pub record IsVotedForByAll (w last : World) (l v n room : ℕ) (m x : Branch) : Type 0 where
@@ -140,7 +140,7 @@ BurstsAreVotedFor =
     → IsVotedForByAll w (after w (burst n l w)) l v n room m
     (leaf (self_of w l) (chronicle_of (after w (burst n l w)) l)))
 
--- No event of a round was refused by the run. Each correct replica has a certificate of its own for the last block,
+-- A round names only what is there. Each correct replica has a certificate of its own for the last block,
 -- which is n higher than m and goes through it, justifies it, and carries what waited. All may climb from there, with
 -- so much room, and none voted above it.
 pub record IsCertifiedByAll (w last : World) (l v n room : ℕ) (m x : Branch) : Type 0 where
@@ -163,7 +163,7 @@ RoundsCertify =
 
 -- ---- decisions
 
--- this block stands on that one, and justifies it
+-- y stands on x, and justifies it
 abbrev pub IsNext : Branch → Branch → Type 0
 IsNext x y = (b : Block) × (y ≡ b ∷ x) × (b.justify ≡ length x)
 
@@ -174,7 +174,7 @@ ThreeMoreDecide =
     AfterEachRun (λ w. OfCorrect w (λ r. (x y z : Branch) (a : Admitted) → IsNext x y → IsNext y z → IsNext z a.branch
     → Among a (taken_blocks (chronicle_of w r)) → Extends (executed (chronicle_of w r)) x))
 
--- No event of these rounds was refused by the run, and all correct replicas go on. Each executed a branch through x,
+-- These rounds name only what is there, and all correct replicas go on. Each executed a branch through x,
 -- which is n higher than m and goes through it, and carries what waited.
 pub record HaveDecided (w last : World) (l n : ℕ) (m x : Branch) : Type 0 where
   pub ran : run w (rounds n l w) ≡ Ok last

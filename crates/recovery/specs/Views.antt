@@ -23,7 +23,7 @@ pub record OnlyViewMoved (self : Identity) (before now : Chronicle) : Type 0 whe
   pub leaf_is : leaf self now ≡ leaf self before
   pub waiting : pending now ≡ pending before
 
--- Timeouts were refused nowhere. All correct replicas go on, in this view, and nothing else of them or of a client
+-- Timeouts name only who is there. All correct replicas go on, in this view, and nothing else of them or of a client
 -- changed.
 pub record CameTo (v : ℕ) (w last : World) : Type 0 where
   pub ran : run w (come_to v w) ≡ Ok last
