@@ -64,38 +64,48 @@ class BadLine(Exception):
     pass
 
 
-def deployment(text):
-    """(faults, clients, keys, addresses, clients of each front); or BadLine, with the line's number."""
-    lines = text.split(b"\n")
-    complete, read = lines[:-1], 0
+class Lines:
+    """The lines of a text, one after the other; BadLine names the first that isn't what has to stand there."""
 
-    def behind(word):
-        nonlocal read
-        read += 1
-        if read > len(complete) or not complete[read - 1].startswith(word):
-            raise BadLine(read)
-        return complete[read - 1][len(word):]
+    def __init__(self, text):
+        *self.complete, self.rest = text.split(b"\n")
+        self.read = 0
 
-    def number_behind(word, least, most):
-        value = number(behind(word))
+    def behind(self, word):
+        """What stands behind a word in the next line."""
+        self.read += 1
+        if self.read > len(self.complete) or not self.complete[self.read - 1].startswith(word):
+            raise BadLine(self.read)
+        return self.complete[self.read - 1][len(word):]
+
+    def number(self, word, least, most):
+        value = number(self.behind(word))
         if value is None or not least <= value <= most:
-            raise BadLine(read)
+            raise BadLine(self.read)
         return value
 
-    faults = number_behind(b"faults ", 1, 10)
-    clients = number_behind(b"clients ", 1, 64)
-    kept = number_behind(b"keys-held ", 1, 65536)
+    def sizes(self):
+        return self.number(b"faults ", 1, 10), self.number(b"clients ", 1, 64), self.number(b"keys-held ", 1, 65536)
+
+    def end(self):
+        if len(self.complete) > self.read or self.rest:
+            raise BadLine(self.read + 1)
+
+
+def deployment(text):
+    """(faults, clients, keys, addresses, clients of each front); or BadLine, with the line's number."""
+    lines = Lines(text)
+    faults, clients, kept = lines.sizes()
     addresses = []
     for replica in range(3 * faults + 1):
-        address = behind(b"replica %d " % replica)
+        address = lines.behind(b"replica %d " % replica)
         if not address or not all(32 < byte < 127 for byte in address):
-            raise BadLine(read)
+            raise BadLine(lines.read)
         addresses.append(address)
     fronts = []
     while sum(fronts) < clients:
-        fronts.append(number_behind(b"front %d " % len(fronts), 1, clients - sum(fronts)))
-    if len(complete) > read or lines[-1]:
-        raise BadLine(read + 1)
+        fronts.append(lines.number(b"front %d " % len(fronts), 1, clients - sum(fronts)))
+    lines.end()
     return faults, clients, kept, addresses, fronts
 
 

@@ -1,5 +1,6 @@
 """Cases of crates/wire_cases that show one thing each."""
 from . import beginnings, letters, wires
+from .window_files import Window, text_of
 from .sizes import Config
 from .tags import big_endian, sha256
 
@@ -313,6 +314,54 @@ def marks():
     yield from (f"mark 256 {text.hex() or '-'}" for text in texts)
 
 
+def window(number, height, lowest, sizes=(1, 8, 65536), branch="a", parting=0):
+    """A window on a branch that parts from branch `a` at a height: all digits of a digest are one letter or figure."""
+    digits = [branch if parting and at >= parting else "%x" % (at % 10) for at in range(lowest, height + 1)]
+    return Window(sizes, number, height, lowest, tuple(bytes.fromhex(digit * 64) for digit in digits))
+
+
+def window_texts():
+    whole = text_of(window(2, 5, 3))
+    yield whole
+    yield from (text_of(one) for one in (window(0, 0, 1), window(3, 1, 1), window(30, 12, 1, sizes=(10, 64, 1))))
+    yield text_of(window(1, 2 ** 64 - 1, 2 ** 64 - 2, sizes=(1, 1, 1)))
+    yield from (whole[:end] for end in (0, 8, 60, len(whole) - 65, len(whole) - 1))
+    yield from (whole + b"\n", whole + whole[-65:], whole + b"x", whole.replace(b"\n", b"\r\n"))
+    changes = [(b"faults 1", b"faults 11"), (b"keys-held 65536", b"keys-held 65537"), (b"window 2", b"window 4"),
+               (b"window 2", b"window 258"), (b"window 2", b"window 02"), (b"window 2", b"Window 2"),
+               (b"executed 5", b"executed 6"), (b"executed 5", b"executed 4"), (b"executed 5", b"executed -5"),
+               (b"executed 5", b"executed 18446744073709551616"), (b"from 3", b"from 0"), (b"from 3", b"from 6"),
+               (b"from 3", b"from 2"), (b"from 3", b"from 4"), (b"from 3\n", b"from 3 \n"), (b"3333", b"33333"),
+               (b"4444", b"444"), (b"5555", b"555g"), (b"\n4444", b"\n444A"), (b"\n4444", b"\n444a"), (b"\n4444", b"\n 444")]
+    yield from (whole.replace(old, new, 1) for old, new in changes)
+    yield from (text_of(window(0, 0, 1)).replace(b"from 1", b"from %d" % low) for low in (0, 2))
+
+
+def judgements():
+    """Three or four windows each; of four replicas three are enough."""
+    apart = window(2, 9, 4, branch="b", parting=6)
+    yield [window(0, 5, 3), window(1, 7, 4), window(2, 9, 4)]
+    yield [window(2, 9, 4), window(0, 5, 3), window(1, 9, 1), window(3, 0, 1)]
+    yield [window(0, 0, 1), window(1, 0, 1), window(2, 0, 1)]
+    yield [window(0, 5, 3), window(1, 7, 4), apart]                 # apart above what 0 has
+    yield [window(0, 5, 3), apart, window(3, 9, 4)]                 # the first of the highest leads
+    yield [apart, window(0, 9, 4), window(3, 6, 1)]
+    yield [window(0, 9, 4), window(3, 6, 1), window(1, 3, 3)]       # below what the first shows
+    yield [window(1, 3, 3), apart, window(3, 7, 7), window(0, 2, 1)]    # a fork goes first
+    yield [window(1, 3, 3), window(0, 2, 1), window(2, 9, 4)]
+    yield [window(0, 5, 3), window(1, 7, 4)]
+    yield [window(0, 5, 3), window(1, 7, 4), window(1, 9, 4)]
+    yield [window(0, 5, 3), window(1, 7, 4), window(2, 9, 4), window(0, 5, 3)]
+    yield from ([window(0, 5, 3), window(1, 7, 4), window(2, 9, 4, sizes)] for sizes in ((2, 8, 65536), (1, 9, 65536), (1, 8, 1)))
+    yield [window(number, 5, 3, (2, 8, 1)) for number in range(4)]
+    yield [window(number, 5 + number, 3, (2, 8, 1)) for number in range(6, 1, -1)]
+
+
+def windows():
+    yield from (f"window {text_field(text)}" for text in window_texts())
+    yield from ("judge " + " ".join(text_field(text_of(one)) for one in some) for some in judgements())
+
+
 def all_cases():
     yield from streams()
     yield from letter_lines()
@@ -323,3 +372,4 @@ def all_cases():
     yield from key_files()
     yield from deployments()
     yield from marks()
+    yield from windows()

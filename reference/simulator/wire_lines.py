@@ -1,7 +1,7 @@
 """The cases of crates/wire_cases: what is wanted of each line. The heads of the program's files have the format."""
 from hashlib import sha256
 
-from . import beginnings, letters, wires
+from . import beginnings, letters, window_files, wires
 from .frame_lines import bytes_of as parts_of
 from .sizes import Config
 from .tags import big_endian
@@ -186,7 +186,22 @@ def tell_begin(fields):
     return "%s %s" % (beginnings.mark_text(party, mark).hex(), "has run before" if has_spoken else mark)
 
 
-BEGINNINGS = {"keys": tell_keys, "deployment": tell_deployment, "mark": tell_mark, "begin": tell_begin}
+def tell_window(fields):
+    try:
+        window = window_files.read(bytes_of(fields[0]))
+    except beginnings.BadLine as bad:
+        return "bad line %d" % bad.args
+    sizes = " ".join(map(str, window.sizes))
+    return f"{sizes} {window.number} {window.height} {window.lowest} {window.last().hex()} {told(window_files.text_of(window))}"
+
+
+def tell_judge(fields):
+    verdict = window_files.judge([window_files.read(bytes_of(field)) for field in fields])
+    return "too few" if verdict is None else " ".join(map(str, verdict))
+
+
+BEGINNINGS = {"keys": tell_keys, "deployment": tell_deployment, "mark": tell_mark, "begin": tell_begin,
+              "window": tell_window, "judge": tell_judge}
 
 
 def tell(line):

@@ -49,7 +49,7 @@ fn number_line(text: &[u8]) -> Option<(u64, &[u8])>
 }
 
 /// The number behind a word, in the first line, and what stands behind it.
-pub(crate) fn number_at<'a>(text: &'a [u8], word: &[u8]) -> Option<(u64, &'a [u8])>
+pub fn number_at<'a>(text: &'a [u8], word: &[u8]) -> Option<(u64, &'a [u8])>
     ensures { IsAt (λ n. word.now ++ decimal n) (IsBelow (2 ^ 64)) text.now
         (option_map (λ line. (line.0, line.1.now)) result) }
 {

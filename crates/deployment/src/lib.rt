@@ -16,5 +16,7 @@ mod replicas;
 mod sizes;
 
 pub use deployment::Deployment;
+pub use fields::number_at;
 pub use laws::a_file_is_of_one_deployment;
 pub use refusal::Refusal;
+pub use sizes::read_sizes;

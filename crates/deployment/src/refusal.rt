@@ -5,7 +5,7 @@ use std::alloc::{AllocError, AllocFailed};
 use std::error::Error;
 use std::fmt;
 
-/// Why a text is no deployment file.
+/// Why a text is no deployment file, or no other file that begins with the sizes.
 #[derive(Clone, Copy, Debug, PartialEq, Eq)]
 pub enum Refusal {
     /// This line, of which the first is 1, isn't what has to stand there, or lacks.

@@ -25,8 +25,8 @@ fn sized(faults: u64, clients: u64, kept: u64) -> Option<Config>
         .ok()
 }
 
-/// The sizes at the front of a text, and what stands behind them.
-pub(crate) fn read_sizes(text: &[u8]) -> Result<(Config, &[u8]), Refusal>
+/// The sizes at the front of a text, in three lines, and what stands behind them.
+pub fn read_sizes(text: &[u8]) -> Result<(Config, &[u8]), Refusal>
     ensures read { IfOk result (λ read. text.now ≡ sizes_text read.0 read.1.now) }
     ensures bad { OnErr result ((sizes : Sizes) (rest : Bytes) → AreSizes sizes → text.now ≢ sizes_text sizes rest) }
 {

@@ -60,6 +60,11 @@ impl<'a, R: Files + AllocGlobal> Directory<'a, R> {
         File::open(self.rt, self.path)?.sync_all()
     }
 
+    /// Keeps a replica's window, in place of the one before.
+    pub fn keep_window(&self, text: &[u8]) -> Result<(), Refusal> {
+        self.replace("window", text)
+    }
+
     /// The mark that it keeps; 0 where it keeps none. `NotItsOwn` where the file has another text: then it isn't known
     /// how far the party spoke.
     pub fn mark(&self) -> Result<u64, Refusal> {

@@ -6,6 +6,7 @@
 //! give them, some at once, and begins behind all that are marked.
 #![tactic(auto)]
 
+mod asks;
 mod directory;
 mod keeper;
 mod laws;
@@ -13,6 +14,7 @@ mod mark;
 mod numbers;
 mod refusal;
 
+pub use asks::Ask;
 pub use directory::Directory;
 pub use keeper::Keeper;
 pub use laws::{no_number_is_given_twice, who_has_spoken_never_begins_again};

@@ -47,6 +47,23 @@ impl Numbers {
         Seq(self.behind)
     }
 
+    /// The same, for those who ask what may be given while more is marked.
+    pub fn again(&self) -> Numbers
+        ensures { result ≡ self.now }
+    {
+        Numbers {
+            behind: self.behind,
+            marked: self.marked,
+        }
+    }
+
+    /// Up to which number all are marked.
+    pub fn marked(&self) -> Seq
+        ensures { result ≡ self.now.marked }
+    {
+        Seq(self.marked)
+    }
+
     /// Whether this number may be given: it is marked.
     pub fn covers(&self, seq: Seq) -> bool
         ensures { result ≡ nat_le seq self.now.marked }

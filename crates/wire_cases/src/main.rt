@@ -5,6 +5,7 @@
 //! - `greeting`, `dial`, `admit`, `hear`, and these with a changed byte: handshakes (`handshakes.rt`).
 //! - `outbox`: calls of an outbox (`outboxes.rt`).
 //! - `keys`, `deployment`, `mark`, `begin`: key files of holders, deployment files, marks (`state.rt`).
+//! - `window`, `judge`: window files (`windows.rt`).
 //!
 //! A line is printed of each. What is wanted was computed by an independent program, `reference/wire_cases`.
 #![tactic(auto)]
@@ -16,6 +17,7 @@ mod letter_texts;
 mod outboxes;
 mod state;
 mod streams;
+mod windows;
 
 use anyhow::{Result, bail};
 use std::alloc::Global;
@@ -30,6 +32,7 @@ fn case_told(alloc: Global, line: &str) -> Result<String> {
         "letter" => letter_texts::case_told(alloc, case),
         "outbox" => outboxes::case_told(alloc, case),
         "keys" | "deployment" | "mark" | "begin" => state::case_told(alloc, subject, case),
+        "window" | "judge" => windows::case_told(alloc, subject, case),
         _ => handshakes::case_told(alloc, subject, case),
     }
 }

@@ -1,0 +1,4 @@
+pub mod Files
+pub mod Judging
+pub mod Reading
+pub mod Windows
