@@ -1,5 +1,6 @@
 //! A front in a process of its own.
 
+use crate::front_desk::Desk;
 use crate::fronts::{Front, Fronts};
 use crate::holding::hold;
 use crate::numbering::{Clerk, Numbering};
@@ -28,11 +29,15 @@ use std::time::Clock;
 use tcp_front::{Seats, front};
 use wires::{Pace, Wires};
 
-/// Which front it is, and how many connections it serves.
+/// How a front is to run.
 #[derive(Clone, Copy, Debug)]
 pub struct FrontTerms {
+    /// Which front of the deployment it is.
     pub number: u8,
+    /// How many connections are served.
     pub most: u64,
+    /// Each how many seconds a line is logged that tells how it goes. None for no lines.
+    pub watch: Option<u64>,
 }
 
 /// A front that has its wires, and serves nobody yet.
@@ -45,7 +50,7 @@ struct Begun<'d, R> {
 }
 
 /// The wires of a front's process, and its numbers, behind all that it may have given before.
-fn begin<'d, R: AllocGlobal + Clock + RandomSource + Files>(
+fn begin<'d, R: AllocGlobal + Clock + RandomSource + Files + Net>(
     rt: &'d R,
     deployment: &Deployment<'_>,
     keys: &HeldKeys,
@@ -57,10 +62,10 @@ fn begin<'d, R: AllocGlobal + Clock + RandomSource + Files>(
     let numbers = Numbers::begin(party, directory.mark()?)?;
     let behind = numbers.behind();
     let life = directory.life(new_life(rt)?)?;
-    let peers = replicas(alloc, deployment, None)?;
+    let peers = replicas(rt, deployment, None)?;
     let endpoint = endpoint(alloc, keys, party, life)?;
     let wires = Wires::new(rt, endpoint, Pace::usual(), &peers, None)?;
-    let requests = WireRequests::new(rt, keys.config(), wires, Numbering::up_to(behind));
+    let requests = WireRequests::new(rt, keys.config(), wires, Numbering::of(&numbers));
     Ok(Begun {
         requests: Arc::new(alloc, requests)?,
         clerk: Clerk { numbers, directory },
@@ -111,11 +116,11 @@ fn rows<'a, R: Wait>(
     Ok(rows)
 }
 
-/// Keeps a front's wires, and serves so many connections, while its clerk marks numbers in this thread.
+/// Keeps a front's wires, and serves so many connections, while this thread sits at its desk.
 fn serve<R>(
     rt: &R,
     requests: &WireRequests,
-    clerk: Clerk<'_, R>,
+    desk: Desk<'_, R>,
     rows: Vec<Replies<'_, R>>,
     listener: &TcpListener,
     seats: &Seats<ClientSeat<R, WireRequests>>,
@@ -148,7 +153,7 @@ where
             wires.close(rt);
             return Err(Fault::Memory);
         };
-        clerk.keep(rt, requests.numbering(), is_done);
+        desk.keep(rt, requests, is_done);
         wires.close(rt);
         served.join(rt)
     })
@@ -191,10 +196,14 @@ where
         mut clerk,
         behind,
     } = begin(rt, deployment, keys, place, state)?;
-    clerk.look(requests.numbering());
+    clerk.look(rt, requests.numbering());
     let (links, ends) = ClientLinks::new(alloc, keys.config(), place.first, place.count)?;
     let rows = rows(rt, alloc, keys, &links)?;
     let seats = seats(rt, &requests, behind, keys, place, ends)?;
-    let most = terms.most;
-    Ok(serve(rt, &requests, clerk, rows, listener, &seats, most)?)
+    let desk = Desk {
+        clerk,
+        front: terms.number,
+        each: terms.watch,
+    };
+    Ok(serve(rt, &requests, desk, rows, listener, &seats, terms.most)?)
 }

@@ -5,6 +5,8 @@
 //! state directory before it speaks (`state_marks`).
 #![tactic(auto)]
 
+mod attending;
+mod front_desk;
 mod front_process;
 mod fronts;
 mod holding;
@@ -19,6 +21,7 @@ mod telling;
 mod wire_post;
 mod wire_requests;
 
+pub use attending::ask;
 pub use front_process::{FrontTerms, run_front};
 pub use fronts::holder_of_front;
 pub use refusal::Refusal;

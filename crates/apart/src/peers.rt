@@ -7,31 +7,35 @@ use handshake::{Endpoint, Life};
 use ids::{PartyId, ReplicaId};
 use key_file::HeldKeys;
 use std::alloc::{AllocError, Global};
-use std::net::SocketAddr;
+use std::net::{Net, SocketAddr, ToSocketAddrs};
 use std::random::RandomSource;
 use std::str;
 use tuning::{FRONT_BACKLOG_BYTES, REPLICA_BACKLOG_BYTES};
 use wires::PeerTerms;
 
-/// Where a replica is reached.
-fn address_of(deployment: &Deployment<'_>, replica: ReplicaId) -> Option<SocketAddr> {
+/// Where a replica is reached. A host's name is looked up once, and of several addresses the first one counts.
+fn address_of<R: Net>(
+    rt: &R,
+    deployment: &Deployment<'_>,
+    replica: ReplicaId,
+) -> Option<SocketAddr> {
     let text = str::from_utf8(deployment.address(replica)?).ok()?;
-    text.parse().ok()
+    text.to_socket_addrs(rt).ok()?.next()
 }
 
 /// All replicas but one, if one is left out. Frames wait for each while it is away.
-pub(crate) fn replicas(
-    alloc: Global,
+pub(crate) fn replicas<R: AllocGlobal + Net>(
+    rt: &R,
     deployment: &Deployment<'_>,
     but: Option<ReplicaId>,
 ) -> Result<Vec<PeerTerms>, Refusal> {
-    let mut peers = Vec::new(alloc);
+    let mut peers = Vec::new(rt.alloc());
     for number in 0..deployment.config().n() {
         let replica = ReplicaId(number);
         if but == Some(replica) {
             continue;
         }
-        let Some(address) = address_of(deployment, replica) else {
+        let Some(address) = address_of(rt, deployment, replica) else {
             return Err(Refusal::BadAddress(number));
         };
         peers.push(PeerTerms {

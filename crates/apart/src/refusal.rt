@@ -1,5 +1,6 @@
 use ids::Fault;
 use std::alloc::{AllocError, AllocFailed};
+use std::error::Error;
 use std::fmt;
 
 /// Why a process doesn't begin, or ends.
@@ -13,6 +14,8 @@ pub enum Refusal {
     NoSuchPlace,
     /// Another process has the state directory.
     InUse,
+    /// No process does what it was asked.
+    NobodyAnswers,
     /// No randomness can be had.
     NoRandomness,
     /// A refusal.
@@ -53,8 +56,11 @@ impl fmt::Display for Refusal {
             Refusal::BadAddress(replica) => write!(f, "no address of replica {replica}"),
             Refusal::NoSuchPlace => f.write_str("no such replica or front in the deployment file"),
             Refusal::InUse => f.write_str("the state directory is in use"),
+            Refusal::NobodyAnswers => f.write_str("nobody answers"),
             Refusal::NoRandomness => f.write_str("no randomness"),
             Refusal::Fault(fault) => write!(f, "fault {}", fault.number()),
         }
     }
 }
+
+impl Error for Refusal {}

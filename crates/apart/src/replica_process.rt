@@ -5,6 +5,7 @@ ghost use Rattle.std.specs.List.{range_with_len};
 ghost use Rattle.ids.specs.Sizes.{replicas};
 ghost use Rattle.marks.specs.Eyes.{first_eye};
 
+use crate::attending::Attendant;
 use crate::fronts::Fronts;
 use crate::holding::hold;
 use crate::peers::{add_fronts, endpoint, new_life, replicas};
@@ -105,6 +106,15 @@ impl Around {
 }
 
 impl Place<'_, '_> {
+    /// Gives the replica its beats and timeouts until it is told to stop or has stopped. Then all threads are to end. Why it
+    /// stopped.
+    fn watch<R: Wait + Clock>(&self, rt: &R) -> Option<Fault> {
+        let around = self.around;
+        let fault = watch(rt, &self.station, &around.sights, &around.stop);
+        around.stop.store(true, SeqCst);
+        fault
+    }
+
     /// Tells all threads to end.
     fn end<R: Wait>(&self, rt: &R) {
         let around = self.around;
@@ -139,7 +149,7 @@ where
     all_started && told.is_ok()
 }
 
-/// Runs all threads of a replica's process until the replica stops. Why it did.
+/// Runs all threads of a replica's process until the replica stops, or is asked to in its state directory. Why it did.
 fn run_all<R>(
     rt: &R,
     place: &Place<'_, '_>,
@@ -147,6 +157,7 @@ fn run_all<R>(
     rows: Vec<Row<'_, R>>,
     workers: Vec<WorkerStart>,
     watcher: Watcher<'_>,
+    attendant: &Attendant<'_>,
     each: Option<u64>,
 ) -> Option<Fault>
 where
@@ -158,6 +169,7 @@ where
         + AllocGlobal
         + Log
         + RandomSource
+        + Files
         + Net<Listener = TcpListener, Stream = TcpStream>,
 {
     let around = place.around;
@@ -167,13 +179,15 @@ where
     thread::scope(thread::scope_env(), rt, |scope| {
         let linked = scope.spawn(move || wires::run(rt, wires, Some(listener), rows));
         let started = start_station(rt, scope, place, post, workers, watcher, each);
-        let fault = if started && linked.is_ok() {
-            watch(rt, &place.station, &around.sights, &around.stop)
-        } else {
-            Some(Fault::Memory)
-        };
+        let watched = scope.spawn(move || place.watch(rt));
+        if started && linked.is_ok() && watched.is_ok() {
+            attendant.keep(rt, &place.station, &around.stop);
+        }
         place.end(rt);
-        fault
+        match watched {
+            Ok(watched) if started && linked.is_ok() => watched.join(rt),
+            _ => Some(Fault::Memory),
+        }
     })
 }
 
@@ -217,7 +231,7 @@ fn begin<R: AllocGlobal + RandomSource + Files>(
 }
 
 /// The wires of a replica's process.
-fn wire<R: AllocGlobal + Clock>(
+fn wire<R: AllocGlobal + Clock + Net>(
     rt: &R,
     deployment: &Deployment<'_>,
     keys: &HeldKeys,
@@ -227,7 +241,7 @@ fn wire<R: AllocGlobal + Clock>(
 ) -> Result<Wired, Refusal> {
     let alloc = rt.alloc();
     let fronts = Fronts::of(alloc, deployment)?;
-    let mut peers = replicas(alloc, deployment, Some(number))?;
+    let mut peers = replicas(rt, deployment, Some(number))?;
     add_fronts(&mut peers, &fronts)?;
     let endpoint = endpoint(alloc, keys, PartyId::from(number), life)?;
     let wires = Wires::new(rt, endpoint, Pace::usual(), &peers, Some(listener))?;
@@ -238,7 +252,65 @@ fn wire<R: AllocGlobal + Clock>(
     })
 }
 
-/// Runs a replica of a deployment in this process, which its peers reach by this listener, until it stops. Why it did.
+/// What lies around the station of a replica, at these wires.
+fn surrounded(
+    alloc: Global,
+    keys: &HeldKeys,
+    number: ReplicaId,
+    wired: Wired,
+) -> Result<Around, Refusal> {
+    let config = keys.config();
+    let inbox = Inbox::new(alloc, config, wired.fronts.len())?;
+    Ok(Around {
+        number,
+        wired,
+        inbox: Arc::new(alloc, inbox)?,
+        sights: Sights::none(alloc, config)?,
+        stop: AtomicBool::new(false),
+    })
+}
+
+/// Runs a station amid what lies around it, until its replica stops. Why it did.
+fn run_station<R>(
+    rt: &R,
+    around: &Around,
+    keyring: &ReplicaKeyring,
+    listener: &TcpListener,
+    attendant: &Attendant<'_>,
+    terms: &Terms,
+) -> Result<Option<Fault>, Refusal>
+where
+    R: Threads
+        + Wait
+        + Clock
+        + Sync
+        + Send
+        + AllocGlobal
+        + Log
+        + RandomSource
+        + Files
+        + Net<Listener = TcpListener, Stream = TcpStream>,
+{
+    let (alloc, replicas) = (rt.alloc(), keyring.config().n());
+    let link = Arc::try_clone(&around.inbox)?;
+    let (marks, mut eyes) = Marks::new(alloc, replicas)?;
+    let watcher = Watcher::new(&marks, replicas, &mut eyes);
+    let (station, workers) = station_of(alloc, keyring, &marks, eyes, link, terms)?;
+    let place = Place { station, around };
+    let rows = around.rows(rt, alloc)?;
+    let each = terms.watch;
+    let fault = run_all(
+        rt, &place, listener, rows, workers, watcher, attendant, each,
+    );
+    let kept = attendant.end(rt, &place.station);
+    match (fault, kept) {
+        (None, Err(refusal)) => Err(refusal),
+        _ => Ok(fault),
+    }
+}
+
+/// Runs a replica of a deployment in this process, which its peers reach by this listener, until it stops, or is asked to in its
+/// state directory. Why it did.
 ///
 /// It begins without memory, and so once only: the directory of this path says from its start on that it has spoken, and `State`
 /// comes where it said so before.
@@ -268,23 +340,7 @@ where
     let keyring = keys.replica_keyring(alloc, number)?.remembering(alloc)?;
     let life = begin(rt, PartyId::from(number), state)?;
     let wired = wire(rt, deployment, keys, number, life, listener)?;
-    let config = keyring.config();
-    let inbox = Arc::new(alloc, Inbox::new(alloc, config, wired.fronts.len())?)?;
-    let link = Arc::try_clone(&inbox)?;
-    let around = Around {
-        number,
-        wired,
-        inbox,
-        sights: Sights::none(alloc, config)?,
-        stop: AtomicBool::new(false),
-    };
-    let rows = around.rows(rt, alloc)?;
-    let (marks, mut eyes) = Marks::new(alloc, config.n())?;
-    let watcher = Watcher::new(&marks, config.n(), &mut eyes);
-    let (station, workers) = station_of(alloc, &keyring, &marks, eyes, link, &terms)?;
-    let place = Place {
-        station,
-        around: &around,
-    };
-    Ok(run_all(rt, &place, listener, rows, workers, watcher, terms.watch))
+    let around = surrounded(alloc, keys, number, wired)?;
+    let attendant = Attendant::new(rt, state, PartyId::from(number));
+    run_station(rt, &around, &keyring, listener, &attendant, &terms)
 }

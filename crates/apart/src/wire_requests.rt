@@ -60,6 +60,11 @@ impl WireRequests {
         )
     }
 
+    /// How many replicas there are.
+    pub(crate) fn replicas(&self) -> u8 {
+        self.config.n()
+    }
+
     /// How many replicas are linked.
     pub(crate) fn linked<R: Wait>(&self, rt: &R) -> usize {
         (0..self.config.n())
@@ -87,9 +92,9 @@ impl Requests for WireRequests {
         false
     }
 
-    fn may_go<R: Wait>(&self, _rt: &R, frame: &[u8]) -> bool {
+    fn may_go<R: Wait>(&self, rt: &R, frame: &[u8]) -> bool {
         match read(&self.config, frame) {
-            Ok(Frame::Request(request)) => self.numbering.may_give(request.seq()),
+            Ok(Frame::Request(request)) => self.numbering.may_give(rt, request.seq()),
             _ => false,
         }
     }

@@ -1,10 +1,10 @@
 -- What the options of a command line ask for.
 use Rattle.std.specs.Prelude.{◌≡◌, ℕ, ◌==◌, ◌-◌, ◌^◌, nat_lt, List, codes, Option, Some, None, option_map, unwrap_or}
-use Rattle.std.specs.Prelude.{if◌then◌else◌, ⊤}
+use Rattle.std.specs.Prelude.{if◌then◌else◌, ⊤, map}
 use Rattle.std.specs.Str.Parse.{digits_value, without_leading_plus}
 use Rattle.clap.specs.declared.parser.matches.Found.{Found}
 use Rattle.clap.specs.declared.parser.matches.ArgMatches.{ArgMatches}
-use Rattle.clap.specs.Words.{first_value, found_of, one_text, rows_of, subcommand_name_of, subcommand_rows_of}
+use Rattle.clap.specs.Words.{first_value, found_of, matched_of, one_text, raw_values, rows_of, subcommand_name_of, subcommand_rows_of}
 use Rattle.ids.specs.Sizes.{Sizes}
 use Rattle.station.specs.declared.terms.Liars.{Liars}
 use Rattle.station.specs.declared.terms.Terms.{Terms}
@@ -15,7 +15,11 @@ use Rattle.command_line.specs.declared.of_front.FrontOptions.{FrontOptions}
 use Rattle.command_line.specs.declared.options.Options.{Options}
 use Rattle.command_line.specs.declared.of_replica.ReplicaOptions.{ReplicaOptions}
 use Rattle.command_line.specs.declared.wanted.Wanted.{Wanted}
-use Rattle.command_line.specs.declared.wanted.Wanted.TheVariants.{Here, Replica, Front}
+use Rattle.command_line.specs.declared.wanted.Wanted.TheVariants.{Here, Replica, Front, Ask, Audit}
+use Rattle.command_line.specs.declared.of_ask.AskOptions.{AskOptions}
+use Rattle.command_line.specs.declared.of_audit.AuditOptions.{AuditOptions}
+use Rattle.state_marks.specs.declared.asks.Ask.{Ask as Asked}
+use Rattle.state_marks.specs.declared.asks.Ask.TheVariants as ask
 
 -- the number of an option, in decimal
 abbrev pub number_of : Found → List ℕ → Option ℕ
@@ -64,6 +68,7 @@ pub record AreTerms (found : Found) (count : ℕ) (terms : Terms) : Type 0 where
   pub window : number_of found (codes "window") ≡ Some heights
   pub kept : IsWindow found heights terms.window
   pub late : option_map unless_zero (number_of found (codes "late")) ≡ Some terms.late
+  pub patience : terms.patience ≡ 1
 
 -- so are those of one replica, which forgets, begins at once and has no clients of its own
 pub record AreTermsOfOne (found : Found) (count : ℕ) (terms : Terms) : Type 0 where
@@ -100,6 +105,7 @@ pub record AreReplicaOptions (found : Found) (options : ReplicaOptions) : Type 0
   pub files : AreFiles found options.files
   pub listen : first_value found (codes "listen") ≡ option_map (λ text. text.now) options.listen
   pub terms : AreTermsOfOne found 255 options.terms
+  pub patience : number_of found (codes "patience") ≡ Some options.terms.patience
 
 -- so does each of a front
 pub record AreFrontOptions (found : Found) (options : FrontOptions) : Type 0 where
@@ -109,6 +115,20 @@ pub record AreFrontOptions (found : Found) (options : FrontOptions) : Type 0 whe
   pub port : number_of found (codes "port") ≡ Some options.port
   pub most : option_map most_of (number_of found (codes "serve")) ≡ Some options.most
   pub watch : option_map unless_zero (number_of found (codes "watch")) ≡ Some options.watch
+
+-- by which name it is asked
+abbrev pub name_of : Asked → List ℕ
+name_of ask.Window = codes "window"
+name_of ask.Stop = codes "stop"
+
+-- so does what is asked of a replica's process
+pub record AreAskOptions (found : Found) (options : AskOptions) : Type 0 where
+  pub ask : first_value found (codes "what") ≡ Some (name_of options.ask)
+  pub state : first_value found (codes "state") ≡ Some options.state.now
+
+-- so do the files that are to be judged, in their order
+pub record AreAuditOptions (found : Found) (options : AuditOptions) : Type 0 where
+  pub paths : option_map raw_values (matched_of found (codes "windows")) ≡ Some (map (λ path. path.now) options.paths.now)
 
 -- what was found behind the name of a command
 pub record IsBehind (matches : ArgMatches) (name : List ℕ) (found : Found) : Type 0 where
@@ -123,3 +143,7 @@ IsWanted matches (Replica options) =
     (found : Found) × IsBehind matches (codes "replica") found × AreReplicaOptions found options
 IsWanted matches (Front options) =
     (found : Found) × IsBehind matches (codes "front") found × AreFrontOptions found options
+IsWanted matches (Ask options) =
+    (found : Found) × IsBehind matches (codes "ask") found × AreAskOptions found options
+IsWanted matches (Audit options) =
+    (found : Found) × IsBehind matches (codes "audit") found × AreAuditOptions found options

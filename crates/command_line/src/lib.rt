@@ -4,6 +4,8 @@
 mod commands;
 mod files;
 mod lies;
+mod of_ask;
+mod of_audit;
 mod of_front;
 mod of_replica;
 mod options;
@@ -16,6 +18,8 @@ mod words;
 
 pub use commands::matches_of;
 pub use files::Files;
+pub use of_ask::AskOptions;
+pub use of_audit::AuditOptions;
 pub use of_front::FrontOptions;
 pub use of_replica::ReplicaOptions;
 pub use options::Options;

@@ -7,14 +7,14 @@ ghost use Rattle.command_line.specs.Options.{AreReplicaOptions};
 use crate::files::Files;
 use crate::reading::read_number;
 use crate::shared;
-use crate::table::{LeftOut, Number, Text, Word};
+use crate::table::{LeftOut, MOST_OF_32_BITS, Number, Text, Word};
 use crate::terms::terms_of_one;
 use clap::ArgMatches;
 use station::Terms;
 use std::hash::RandomState;
 
 /// All options, in the order in which help has them.
-pub(crate) const WORDS: [Word; 14] = [
+pub(crate) const WORDS: [Word; 15] = [
     Word::Number(Number {
         name: "id",
         value: "I",
@@ -37,6 +37,14 @@ pub(crate) const WORDS: [Word; 14] = [
     shared::BLOCKS,
     shared::RECORD,
     shared::WORKERS,
+    Word::Number(Number {
+        name: "patience",
+        value: "N",
+        least: 1,
+        most: MOST_OF_32_BITS,
+        left_out: LeftOut::Default("1"),
+        help: "Views last N times as long: for slow links",
+    }),
     shared::WATCH,
     Word::Liar("It lies"),
     shared::LIAR_SEED,
@@ -64,7 +72,10 @@ impl<'a> ReplicaOptions<'a> {
             number: u8::try_from(read_number(matches, "id")?).ok()?,
             files: Files::read(matches)?,
             listen: matches.get_str("listen"),
-            terms: terms_of_one(matches, u8::MAX, hasher)?,
+            terms: Terms {
+                patience: read_number(matches, "patience")?,
+                ..terms_of_one(matches, u8::MAX, hasher)?
+            },
         })
     }
 }

@@ -1,6 +1,7 @@
 //! An option of a command, as the tables of `commands` have it, and as the parser wants it.
 
 use crate::lies::LIARS;
+use crate::of_ask::ASKS;
 use clap::builder::ValueParser;
 use clap::{Arg, ArgAction, Command};
 use std::alloc::{AllocError, Global};
@@ -49,6 +50,10 @@ pub(crate) enum Word {
     /// The name of a lie, with this help.
     Liar(&'static str),
     Archive,
+    /// What a replica is asked.
+    Ask,
+    /// Files, one or more.
+    Windows,
 }
 
 /// A command that takes these options too.
@@ -71,6 +76,8 @@ fn arg_of(alloc: Global, word: Word) -> Arg<'static> {
         Word::Number(number) => number_arg(alloc, number),
         Word::Liar(help) => liar_arg(alloc, help),
         Word::Archive => archive_arg(alloc),
+        Word::Ask => ask_arg(alloc),
+        Word::Windows => windows_arg(alloc),
     }
 }
 
@@ -106,6 +113,22 @@ fn liar_arg(alloc: Global, help: &'static str) -> Arg<'static> {
         .value_name("LIE")
         .value_parser(LIARS.as_slice())
         .help(help)
+}
+
+fn ask_arg(alloc: Global) -> Arg<'static> {
+    Arg::new(alloc, "what")
+        .value_name("WHAT")
+        .value_parser(ASKS.as_slice())
+        .required(true)
+        .help("To write its window into its state directory, or to stop and do so")
+}
+
+fn windows_arg(alloc: Global) -> Arg<'static> {
+    Arg::new(alloc, "windows")
+        .value_name("FILE")
+        .num_args(1..)
+        .required(true)
+        .help("The window of one replica, from its state directory")
 }
 
 fn archive_arg(alloc: Global) -> Arg<'static> {

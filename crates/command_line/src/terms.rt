@@ -40,6 +40,7 @@ pub(crate) fn terms_of_one(
         record: read_number(matches, "record")?,
         late: None,
         workers: workers_of(read_number(matches, "workers")?),
+        patience: 1,
         watch: unless_zero(read_number(matches, "watch")?),
         hasher,
     })
@@ -66,6 +67,7 @@ pub(crate) fn terms_of(matches: &ArgMatches<'_>, liars: u8, hasher: RandomState)
         liar_clients: u8::try_from(read_number(matches, "liar-client")?).ok()?,
         most: most_of(matches)?,
         window: window_of(matches, window),
+        patience: 1,
         late: unless_zero(read_number(matches, "late")?).map(|height| Height(height)),
         ..of_one
     })

@@ -112,6 +112,7 @@ where
     let terms = FrontTerms {
         number: options.number,
         most: options.most,
+        watch: options.watch,
     };
     Ok(run_front(rt, &deployment, &keys, terms, paths.state, &listener)?)
 }

@@ -79,7 +79,10 @@ impl PartyFault {
                 deployment needs new keys and empty state directories",
             PartyFault::Refused(Refusal::State(_) | Refusal::InUse) =>
                 "a state directory is one party's alone, and one process's at a time",
-            PartyFault::Refused(Refusal::BadAddress(_)) => "an address is IP:PORT",
+            PartyFault::Refused(Refusal::NobodyAnswers) =>
+                "no replica runs with this state directory",
+            PartyFault::Refused(Refusal::BadAddress(_)) =>
+                "an address is IP:PORT or NAME:PORT, with a name that is known here",
             PartyFault::Refused(_) => "docs/OPERATING.md tells what to do at each message",
         }
     }

@@ -89,6 +89,7 @@ where
         window: None,
         window_most: None,
         record: 0,
+        patience: 1,
         late: None,
         workers: Workers::Two,
         watch: None,

@@ -60,6 +60,7 @@ where
         window: Some(64),
         window_most: Some(64),
         record: 64,
+        patience: 1,
         late: Some(Height(LATE)),
         workers: Workers::One,
         watch: None,

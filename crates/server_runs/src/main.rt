@@ -216,6 +216,7 @@ impl Trial {
             window: None,
             window_most: None,
             record: 16,
+            patience: 1,
             late: None,
             workers: Workers::Two,
             watch: None,

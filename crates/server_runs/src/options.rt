@@ -1,16 +1,18 @@
 //! Command lines of `mcbft`, and what they ask for.
 
 use anyhow::{Result, bail};
-use command_line::{Files, FrontOptions, Options, ReplicaOptions, Wanted, matches_of};
+use command_line::{
+    AuditOptions, Files, FrontOptions, Options, ReplicaOptions, Wanted, matches_of,
+};
 use server::Terms;
 use std::alloc::Global;
 use std::hash::RandomState;
 use std::random::RandomSource;
 
 /// Command lines: what is left out has a value that stands for it; each option has one of its own; an archive; too many
-/// that are to lie, and too few keys; each lie by its name; words that are none; and the same of a replica and of a front,
-/// before whose names no option may stand.
-const LINES: [&str; 32] = [
+/// that are to lie, and too few keys; each lie by its name; words that are none; the same of a replica and of a front,
+/// before whose names no option may stand; what a replica can be asked; and files of windows.
+const LINES: [&str; 38] = [
     "--keys k",
     "--keys k --faults 10 --clients 64 --port 11211 --liar mute --liars 3 --liar-until 5 --liar-seed 8 \
         --liar-client 2 --serve 7 --keys-held 9 --blocks 60 --window 4 --window-most 6 --workers 2 --watch 1 --record 3 --late 11",
@@ -38,13 +40,19 @@ const LINES: [&str; 32] = [
     "--faults 1",
     "replica --id 2 --deployment d --keys k --state s",
     "replica --id 3 --deployment d --keys k --state s --listen 10.0.0.4:7450 --window 4 --window-most 6 --blocks 60 \
-        --record 3 --workers 2 --watch 1 --liar any --liar-seed 8 --liar-until 5",
+        --record 3 --workers 2 --patience 7 --watch 1 --liar any --liar-seed 8 --liar-until 5",
     "replica --id 2 --deployment d --keys k",
     "replica --id 2 --deployment d --keys k --state s --archive",
     "front --id 0 --deployment d --keys k --state s --port 11211",
     "front --id 1 --deployment d --keys k --state s --port 0 --listen 10.0.0.4 --serve 7 --watch 1",
     "front --id 0 --deployment d --keys k --state s",
     "--keys k replica --id 2 --deployment d --keys k --state s",
+    "ask window --state s",
+    "ask stop --state s",
+    "ask leave --state s",
+    "ask stop",
+    "audit a b c",
+    "audit",
 ];
 
 /// How replicas are to run, but for the caches' secret.
@@ -57,8 +65,8 @@ fn write_terms(text: &mut String, terms: &Terms) -> Result<()> {
     )?;
     write!(
         text,
-        " {} {:?} {:?} {:?}",
-        terms.record, terms.late, terms.workers, terms.watch
+        " {} {:?} {:?} {} {:?}",
+        terms.record, terms.late, terms.workers, terms.patience, terms.watch
     )?;
     Ok(())
 }
@@ -97,12 +105,23 @@ fn text_of_front(alloc: Global, options: &FrontOptions<'_>) -> Result<String> {
     Ok(text)
 }
 
+/// Which windows are to be judged.
+fn text_of_audit(alloc: Global, options: &AuditOptions<'_, '_>) -> Result<String> {
+    let mut text = format!(in alloc; "audit")?;
+    for path in options.paths {
+        write!(text, " {path}")?;
+    }
+    Ok(text)
+}
+
 /// What is wanted.
-fn text_of(alloc: Global, wanted: &Wanted<'_>) -> Result<String> {
+fn text_of(alloc: Global, wanted: &Wanted<'_, '_>) -> Result<String> {
     match wanted {
         Wanted::Here(options) => text_here(alloc, options),
         Wanted::Replica(options) => text_of_replica(alloc, options),
         Wanted::Front(options) => text_of_front(alloc, options),
+        Wanted::Ask(options) => Ok(format!(in alloc; "ask {:?} {}", options.ask, options.state)?),
+        Wanted::Audit(options) => text_of_audit(alloc, options),
     }
 }
 

@@ -28,3 +28,17 @@ returns-in-Some-read-3 c = (
   is_behind _ _ _ _ c.in-Some.ensures.name c.in-front.is c.in-Some.ensures.rows,
   c.in-Some-read-3.ensures,
 )
+
+pub returns-in-Some-read-4 : goal.returns-in-Some-read-4
+returns-in-Some-read-4 c = (
+  found_of c.in-Some.behind.now,
+  is_behind _ _ _ _ c.in-Some.ensures.name c.in-ask.is c.in-Some.ensures.rows,
+  c.in-Some-read-4.ensures,
+)
+
+pub returns-in-Some-read-5 : goal.returns-in-Some-read-5
+returns-in-Some-read-5 c = (
+  found_of c.in-Some.behind.now,
+  is_behind _ _ _ _ c.in-Some.ensures.name c.in-audit.is c.in-Some.ensures.rows,
+  c.in-Some-read-5.ensures,
+)
