@@ -59,11 +59,14 @@ class Process:
         self.status()
         return self.began is not None and self.began_at(self.pid) == self.began
 
+    def send(self, number):
+        """Sends it a signal. Nothing is done to another process that has its number by now."""
+        if self.runs():
+            os.kill(self.pid, number)
+
     def kill(self, number=signal.SIGKILL):
-        """Ends it. Nothing is done to another process that has its number by now."""
-        if not self.runs():
-            return
-        os.kill(self.pid, number)
+        """Ends it."""
+        self.send(number)
         until = time.monotonic() + 10
         while self.runs() and time.monotonic() < until:
             time.sleep(0.01)
@@ -81,11 +84,15 @@ class Deployment:
     def state(self, name):
         return self.at("state", name)
 
+    def addresses(self, replicas):
+        """Where so many replicas are reached."""
+        return [f"127.0.0.1:{port}" for port in free_ports(replicas)]
+
     def make(self, faults=1, clients=8, fronts=1, keys_held=65536):
         """Writes the deployment file, and makes keys and empty state directories."""
         replicas = 3 * faults + 1
         lines = [f"faults {faults}", f"clients {clients}", f"keys-held {keys_held}"]
-        lines += [f"replica {number} 127.0.0.1:{port}" for number, port in enumerate(free_ports(replicas))]
+        lines += [f"replica {number} {address}" for number, address in enumerate(self.addresses(replicas))]
         lines += [f"front {number} {count}" for number, count in enumerate(shares(clients, fronts))]
         os.makedirs(self.folder, exist_ok=True)
         with open(self.at("deployment"), "w", encoding="ascii") as file:
