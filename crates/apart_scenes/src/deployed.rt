@@ -1,5 +1,6 @@
 //! A deployment on this machine: four replicas, and two fronts of two clients each.
 
+use crate::endings::Endings;
 use anyhow::{Context, Result};
 use std::alloc::Global;
 use std::fs;
@@ -16,6 +17,7 @@ pub(crate) struct Deployed {
     pub(crate) text: String,
     pub(crate) replicas: Vec<TcpListener>,
     pub(crate) fronts: Vec<TcpListener>,
+    pub(crate) endings: Endings,
 }
 
 /// So many listeners, wherever the system has room. The first one listens where a name leads.
@@ -73,6 +75,7 @@ impl Deployed {
             text: deployment_text(rt.alloc(), &replicas)?,
             replicas,
             fronts,
+            endings: Endings::none(),
         })
     }
 

@@ -120,7 +120,7 @@ where
 }
 
 /// How a front ended.
-pub(crate) fn run_as_front<R>(rt: &R, deployed: &Deployed, number: u8, most: u64) -> &'static str
+fn run_as_front<R>(rt: &R, deployed: &Deployed, number: u8, most: u64) -> &'static str
 where
     R: Threads + Wait + Clock + Sync + Send + Clone + Drop + AllocGlobal + Log,
     R: RandomSource + Files<File = File> + Net<Listener = TcpListener, Stream = TcpStream>,
@@ -136,4 +136,37 @@ where
 pub(crate) fn stop<R: Files + Clock + AllocGlobal>(rt: &R, number: u8) -> Result<()> {
     let state = directory(rt.alloc(), "replica", number)?;
     Ok(ask(rt, state.as_str(), Ask::Stop)?)
+}
+
+/// Runs a replica, and leaves how it ended.
+pub(crate) fn replica_thread<R>(rt: &R, deployed: &Deployed, number: u8)
+where
+    R: Threads + Wait + Clock + Sync + Send + AllocGlobal + Log,
+    R: RandomSource + Files<File = File> + Net<Listener = TcpListener, Stream = TcpStream>,
+{
+    let ending = run_as_replica(rt, deployed, number);
+    deployed.endings.leave(rt, usize::from(number), ending);
+}
+
+/// Runs a front, and leaves how it ended.
+pub(crate) fn front_thread<R>(rt: &R, deployed: &Deployed, number: u8, most: u64)
+where
+    R: Threads + Wait + Clock + Sync + Send + Clone + Drop + AllocGlobal + Log,
+    R: RandomSource + Files<File = File> + Net<Listener = TcpListener, Stream = TcpStream>,
+{
+    let ending = run_as_front(rt, deployed, number, most);
+    deployed
+        .endings
+        .leave(rt, usize::from(number).saturating_add(4), ending);
+}
+
+/// Runs the first front once more, when it has ended.
+pub(crate) fn front_thread_again<R>(rt: &R, deployed: &Deployed)
+where
+    R: Threads + Wait + Clock + Sync + Send + Clone + Drop + AllocGlobal + Log,
+    R: RandomSource + Files<File = File> + Net<Listener = TcpListener, Stream = TcpStream>,
+{
+    let _ended = deployed.endings.wait_for(rt, 4);
+    let ending = run_as_front(rt, deployed, 0, 1);
+    deployed.endings.leave(rt, 6, ending);
 }
