@@ -1,6 +1,8 @@
 -- Up to where a replica may forget, by what is seen of it and how far the others show to be.
 use Rattle.std.specs.Prelude.{◌≡◌, ℕ, ◌+◌, ◌/◌, ◌-◌, ◌^◌, ◌<◌, ◌≤◌, min, max, nat_lt, Bool, false, List, Contains}
-use Rattle.std.specs.Prelude.{if◌then◌else◌, Option, Some, None, is_some, unwrap_or, fold}
+use Rattle.std.specs.Prelude.{if◌then◌else◌, Option, Some, None, is_some, unwrap_or, fold, true, ◌&&◌}
+use Rattle.ids.specs.declared.fault.Fault.{Fault}
+use Rattle.ids.specs.declared.fault.Fault.TheVariants.{Full}
 use Rattle.ids.specs.declared.limits.TheConstants.{BELOW_HORIZON}
 use Rattle.tuning.specs.declared.clocks.TheConstants.{WINDOW_SLACK}
 use Rattle.clock.specs.declared.forgetting.Keep.{Keep}
@@ -13,6 +15,15 @@ lacks_next horizon height = nat_lt (height + 1) (horizon - BELOW_HORIZON)
 -- what a replica shows of which this is seen: its last executed height, or the greatest where it has stopped
 abbrev pub shown_by : Pulse → ℕ
 shown_by p = if is_some p.stopped then 2 ^ 64 - 1 else p.height
+
+-- it holds as many blocks as it may
+abbrev pub is_full : Option Fault → Bool
+is_full (Some Full) = true
+is_full other = false
+
+-- for how many looks it has been full, with this one, where it was given leave to forget
+abbrev pub full_for : (looks : ℕ) → Pulse → (may_forget : Bool) → ℕ
+full_for looks p may_forget = if is_full p.stopped && may_forget then min (looks + 1) (2 ^ 64 - 1) else 0
 
 -- the lesser of two heights, as long as who shows the second one finds its next block
 abbrev pub slower : ℕ → ℕ → ℕ → ℕ

@@ -1,5 +1,8 @@
 //! The thread that looks at a replica.
 
+ghost use Rattle.std.specs.Prelude.{◌≡◌};
+ghost use Rattle.clock.specs.Pruning as pruning;
+
 use crate::forgetting::{Keep, prune_at, shown_by};
 use crate::trouble::Trouble;
 use crate::watch::{Due, Pulse, Watch};
@@ -45,16 +48,19 @@ fn millis_since<R: Clock>(rt: &R, start: Option<Instant>) -> u64 {
 }
 
 /// For how many looks a replica has been full, with this one, where it was given leave to forget.
-fn full_for(looks: u64, pulse: &Pulse, may_forget: bool) -> u64 {
-    if pulse.stopped == Some(Fault::Full) && may_forget {
+fn full_for(looks: u64, pulse: &Pulse, may_forget: bool) -> u64
+    ensures { result ≡ pruning.full_for looks pulse.now may_forget }
+{
+    if matches!(pulse.stopped, Some(Fault::Full)) && may_forget {
         looks.saturating_add(1)
     } else {
         0
     }
 }
 
-/// Looks at a replica, one of so many, which may take so many times as long, each `LOOK_MILLIS` until it is told to stop, and hands in beats, timeouts,
-/// leads, and prunings that leave it so much, if it is to prune. It tells whether there is trouble.
+/// Looks at a replica, one of so many, each `LOOK_MILLIS` until it is told to stop, and hands in beats, timeouts, leads, and
+/// prunings that leave it so much, if it is to prune. Its views may take so many times as long as where frames take no time. It
+/// tells whether there is trouble.
 ///
 /// It ends where the replica has stopped, too, and tells why; one that is full may be so for `FULL_LOOKS` while it may
 /// forget. Where it was told to stop, it tells nothing.
