@@ -16,4 +16,5 @@ mod rows;
 pub use held_keys::HeldKeys;
 pub use holder::Holder;
 pub use key_file::{KeyFileFault, PairKeys, find_key};
+pub use line::take_key;
 pub use pair_key::PairKey;

@@ -41,8 +41,9 @@ fn key_of(digits: &[u8]) -> Option<[u8; 32]>
     }
 }
 
-/// The key at the front of a text that LF ends, and what stands behind that.
-fn take_key(text: &[u8]) -> Option<([u8; 32], &[u8])>
+/// The 32 bytes that 64 hexadecimal digits at the front of a text write, which LF ends, and what stands behind that. None where it
+/// begins otherwise: no upper-case digit.
+pub fn take_key(text: &[u8]) -> Option<([u8; 32], &[u8])>
     ensures { IsKeyAt key_end text.now (option_map (λ found. (found.0, found.1.now)) result) }
 {
     if text.len() < 64 {

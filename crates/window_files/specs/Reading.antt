@@ -1,18 +1,12 @@
 -- What is read of a text.
 use Rattle.std.specs.Prelude.{◌≡◌, ◌≢◌, ℕ, ◌≤◌, List, ◌++◌, length, Option, Some, None}
 use Rattle.std.specs.List.{AllByRecursion, flat_map}
-use Rattle.hex.specs.Hex.{encode_lower}
 use Rattle.definitions.specs.Bytes.{Bytes}
 use Rattle.window_files.specs.Files.{IsDigest, digest_line}
 
 -- a number is within these limits
 abbrev pub IsWithin : ℕ → ℕ → ℕ → Type 0
 IsWithin least most n = (least ≤ n) × (n ≤ most)
-
--- the digest that digits write, if they write one
-abbrev pub IsDigestOf : Bytes → Option Bytes → Type 0
-IsDigestOf digits None = (d : Bytes) → IsDigest d → digits ≢ encode_lower d
-IsDigestOf digits (Some d) = IsDigest d × (digits ≡ encode_lower d)
 
 -- the digest in a line at the front of a text, and what stands behind that line, if the text begins with such a line
 abbrev pub IsDigestAt : Bytes → Option (Bytes × Bytes) → Type 0

@@ -1,17 +1,17 @@
 //! From a text to the first lines and the digests.
 
-ghost use Rattle.std.specs.Prelude.{◌≡◌, ◌≢◌, ◌↔◌, IsTrue, ◌++◌, [], ◌∷◌, ℕ, List, decimal, option_map, IfOk, OnErr, Err};
+ghost use Rattle.std.specs.Prelude.{◌≡◌, ◌≢◌, ◌↔◌, IsTrue, ◌++◌, ℕ, List, decimal, option_map, IfOk, OnErr, Err};
 ghost use Rattle.definitions.specs.Bytes.{Bytes};
-ghost use Rattle.deployment.specs.Fields.{IsAt, IsBehind};
+ghost use Rattle.deployment.specs.Fields.{IsAt};
 ghost use Rattle.deployment.specs.declared.refusal.Refusal.TheVariants as refusal;
 ghost use Rattle.window_files.specs.Files.{IsHead, IsDigest, head_text};
-ghost use Rattle.window_files.specs.Reading.{IsWithin, IsDigestAt, IsDigestOf, AreDigestsOf};
+ghost use Rattle.window_files.specs.Reading.{IsWithin, IsDigestAt, AreDigestsOf};
 ghost use Rattle.window_files.specs.declared.head.Head.{Head};
 
 use crate::head::Head;
 use deployment::{Refusal, number_at, read_sizes};
-use hex::FromHex;
 use ids::{Digest, Height, ReplicaId};
+use key_file::take_key;
 use std::alloc::Global;
 
 /// Whether a number is within these limits.
@@ -62,40 +62,12 @@ pub(crate) fn read_head(text: &[u8]) -> Result<(Head, &[u8]), Refusal>
     Ok((head, lowest.1))
 }
 
-/// The digest that 64 digits write.
-fn digest_of(digits: &[u8]) -> Option<Digest>
-    ensures { IsDigestOf digits.now result }
-{
-    let Ok(digest) = <[u8; 32] as FromHex>::from_hex(digits) else {
-        return None;
-    };
-    let mut again = [0; 64];
-    hex::encode_to_slice(digest.as_slice(), &mut again).unwrap();
-    if digits == again.as_slice() {
-        Some(Digest(digest))
-    } else {
-        None
-    }
-}
-
-/// What stands behind the LF at the front of a text.
-fn behind_lf(text: &[u8]) -> Option<&[u8]>
-    ensures { IsBehind (10 ∷ []) text.now (option_map (λ rest. rest.now) result) }
-{
-    text.strip_prefix(b"\n")
-}
-
 /// The digest in the line at the front of a text, and what stands behind that.
 fn take_digest(text: &[u8]) -> Option<(Digest, &[u8])>
     ensures { IsDigestAt text.now (option_map (λ found. (found.0, found.1.now)) result) }
 {
-    if text.len() < 64 {
-        return None;
-    }
-    let (digits, rest) = text.split_at(64);
-    let rest = behind_lf(rest)?;
-    let digest = digest_of(digits)?;
-    Some((digest, rest))
+    let (digest, rest) = take_key(text)?;
+    Some((Digest(digest), rest))
 }
 
 /// The number of a digest's line in the file, as far as it can be told.
