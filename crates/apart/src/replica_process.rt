@@ -62,6 +62,8 @@ struct Around {
 struct Place<'p, 'm> {
     station: Station<'m>,
     around: &'p Around,
+    /// Each how many seconds a line tells how it goes. None for no lines.
+    each: Option<u64>,
 }
 
 impl Wired {
@@ -132,13 +134,12 @@ fn start_station<'s, E, R>(
     post: &'s WirePost<'s>,
     workers: Vec<WorkerStart>,
     watcher: Watcher<'s>,
-    each: Option<u64>,
 ) -> bool
 where
     R: Wait + Clock + Sync + AllocGlobal + Log,
 {
     let around = place.around;
-    let (station, stop) = (&place.station, &around.stop);
+    let (station, stop, each) = (&place.station, &around.stop, place.each);
     let mut all_started = true;
     for worker in workers {
         let started = scope.spawn(move || run_worker(rt, station, post, worker, stop));
@@ -158,7 +159,6 @@ fn run_all<R>(
     workers: Vec<WorkerStart>,
     watcher: Watcher<'_>,
     attendant: &Attendant<'_>,
-    each: Option<u64>,
 ) -> Option<Fault>
 where
     R: Threads
@@ -178,7 +178,7 @@ where
     let wires = &around.wired.wires;
     thread::scope(thread::scope_env(), rt, |scope| {
         let linked = scope.spawn(move || wires::run(rt, wires, Some(listener), rows));
-        let started = start_station(rt, scope, place, post, workers, watcher, each);
+        let started = start_station(rt, scope, place, post, workers, watcher);
         let watched = scope.spawn(move || place.watch(rt));
         if started && linked.is_ok() && watched.is_ok() {
             attendant.keep(rt, &place.station, &around.stop);
@@ -296,12 +296,13 @@ where
     let (marks, mut eyes) = Marks::new(alloc, replicas)?;
     let watcher = Watcher::new(&marks, replicas, &mut eyes);
     let (station, workers) = station_of(alloc, keyring, &marks, eyes, link, terms)?;
-    let place = Place { station, around };
+    let place = Place {
+        station,
+        around,
+        each: terms.watch,
+    };
     let rows = around.rows(rt, alloc)?;
-    let each = terms.watch;
-    let fault = run_all(
-        rt, &place, listener, rows, workers, watcher, attendant, each,
-    );
+    let fault = run_all(rt, &place, listener, rows, workers, watcher, attendant);
     let kept = attendant.end(rt, &place.station);
     match (fault, kept) {
         (None, Err(refusal)) => Err(refusal),
@@ -313,7 +314,7 @@ where
 /// state directory. Why it did.
 ///
 /// It begins without memory, and so once only: the directory of this path says from its start on that it has spoken, and `State`
-/// comes where it said so before.
+/// comes where it said so before; and at the end, where its window can't be kept there.
 pub fn run_replica<R>(
     rt: &R,
     deployment: &Deployment<'_>,

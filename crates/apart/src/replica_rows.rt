@@ -3,12 +3,13 @@
 use crate::pending::Pending;
 use bytes::Bytes;
 use catching_up::Question;
-use fabric::{Inbox, Parcel, ReplicaSet, Sender, is_request};
+use fabric::{Inbox, Parcel, Sender, is_request};
 use ids::{Height, MOST_REPLICAS, PartyId, ReplicaId};
 use letters::{Letter, Progress, read};
 use station::Sights;
 use std::alloc::Global;
 use std::sync::Wait;
+use suspicion::ReplicaSet;
 use wires::Arrivals;
 
 /// The row of one peer at a replica's inbox. What comes over its wire is charged to it, whatever frames say. What doesn't fit is

@@ -1,17 +1,17 @@
 //! What a replica's process tells others and its log.
 
 use crate::wire_post::WirePost;
-use ids::{Config, Height, PartyId, ReplicaId};
+use ids::{Config, PartyId, ReplicaId};
 use letters::Progress;
 use log::{Log, info, warn};
 use marks::Watcher;
-use station::Station;
+use station::{Seen, Station};
 use std::sync::Wait;
 use std::sync::atomic::AtomicBool;
 use std::sync::atomic::Ordering::SeqCst;
 use std::thread;
 use std::time::{Clock, Duration};
-use tuning::{TELL_MILLIS, VAIN_SECONDS, WARNING_PAUSE_SECONDS};
+use tuning::{TELL_MILLIS, WARNING_PAUSE_SECONDS};
 use wires::{SizeWarning, Wires};
 
 /// How far a replica is, as others are told.
@@ -43,10 +43,8 @@ pub(crate) struct Teller<'a, 's, 'm> {
     watcher: Watcher<'m>,
     /// How many commands were executed at the last line.
     executed: u64,
-    /// Whether it was far behind a second ago, how far it was then, and for how many seconds it has been so and executed nothing.
-    was_away: bool,
-    height: Height,
-    still: u64,
+    /// How it got on a second ago.
+    seen: Seen,
     /// From which second on a second life may be told of, and a doubt.
     again: u64,
     doubted_again: u64,
@@ -67,9 +65,7 @@ impl<'a, 's, 'm> Teller<'a, 's, 'm> {
             post,
             watcher,
             executed: 0,
-            was_away: false,
-            height: Height(0),
-            still: 0,
+            seen: Seen::none(),
             again: 0,
             doubted_again: 0,
             sizes: SizeWarning::none(),
@@ -93,29 +89,6 @@ impl Teller<'_, '_, '_> {
         self.executed = executed;
     }
 
-    /// Tells where the replica has fallen behind, is with the others again, or doesn't get on.
-    fn tell_way<R: Wait + Log>(&mut self, rt: &R) {
-        let (number, progress) = (self.station.number().0, self.station.progress(rt));
-        if progress.is_away && !self.was_away {
-            let behind = self.station.foremost().0.saturating_sub(progress.height.0);
-            info!(rt; "replica {number} is {behind} heights behind, and catches up");
-        }
-        if self.was_away && !progress.is_away {
-            info!(rt; "replica {number} goes on again");
-        }
-        let is_still = progress.is_away && progress.height == self.height;
-        self.still = if is_still {
-            self.still.saturating_add(1)
-        } else {
-            0
-        };
-        if self.still == VAIN_SECONDS {
-            warn!(rt; "replica {number} is stuck: what others recorded doesn't bring it on");
-        }
-        self.was_away = progress.is_away;
-        self.height = progress.height;
-    }
-
     /// Warns where a replica came in a second life, once a minute at most.
     fn tell_lives<R: Log>(&mut self, rt: &R, second: u64) {
         if second < self.again {
@@ -129,7 +102,9 @@ impl Teller<'_, '_, '_> {
 
     /// What is told once in a second; a line of status each so many, if any.
     fn look<R: Wait + Log>(&mut self, rt: &R, second: u64, each: Option<u64>) {
-        self.tell_way(rt);
+        self.seen = self
+            .seen
+            .look(rt, self.station, self.station.progress(rt), false);
         self.doubted_again = self.station.warn_of_doubts(rt, self.doubted_again, second);
         self.tell_lives(rt, second);
         let others = self.wires.other_sizes(rt);

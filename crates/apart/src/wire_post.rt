@@ -3,7 +3,7 @@
 use crate::fronts::Fronts;
 use bytes::Bytes;
 use catching_up::Question;
-use fabric::{Answer, Outgoing, Post, Questioned, Recording, ReplicaSet, is_request};
+use fabric::{Answer, Outgoing, Post, Questioned, Recording, is_request};
 use ids::{ClientId, Config, MOST_REPLICAS, PartyId, ReplicaId};
 use letters::{Letter, Progress, write};
 use signed_frames::{Sending, To};
@@ -11,6 +11,7 @@ use std::alloc::Global;
 use std::sync::Wait;
 use std::sync::atomic::AtomicU64;
 use std::sync::atomic::Ordering::SeqCst;
+use suspicion::ReplicaSet;
 use wires::Wires;
 
 /// The wires of a replica's process. What can't go out is lost and counted.

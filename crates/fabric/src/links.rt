@@ -11,7 +11,6 @@ use crate::client_links::{ClientLinks, counters};
 use crate::inbox::Inbox;
 use crate::parcel::{Answer, Parcel};
 use crate::post::Post;
-use crate::replica_set::ReplicaSet;
 use crate::rows::Sender;
 use bytes::Bytes;
 use catching_up::Question;
@@ -24,6 +23,7 @@ use std::marker::Model;
 use std::sync::atomic::AtomicU64;
 use std::sync::atomic::Ordering::SeqCst;
 use std::sync::{Arc, Wait};
+use suspicion::ReplicaSet;
 use tuning::CLIENT_CROWD;
 
 /// The ends at which parcels are handed in, of the links of all parties. Threads share them by reference.

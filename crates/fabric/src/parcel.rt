@@ -4,10 +4,10 @@ ghost use Rattle.std.specs.Prelude.{◌≡◌, ◌+◌, length};
 ghost use Rattle.tuning.specs.declared.links.TheConstants.{PARCEL_SIZE};
 ghost use Rattle.fabric.specs.Sizes.{with_all, with_one};
 
-use crate::replica_set::ReplicaSet;
 use bytes::Bytes;
 use catching_up::Question;
 use ids::{Digest, ReplicaId, View};
+use suspicion::ReplicaSet;
 use tuning::PARCEL_SIZE;
 
 /// How much a frame takes of its sender's share, at a replica's link and at a client's.

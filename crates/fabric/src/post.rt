@@ -1,13 +1,13 @@
 //! What carries what replicas and clients say.
 
 use crate::parcel::Answer;
-use crate::replica_set::ReplicaSet;
 use crate::worker::Outgoing;
 use bytes::Bytes;
 use catching_up::Question;
 use ids::{Config, ReplicaId};
 use std::sync::Wait;
 use std::time::Clock;
+use suspicion::ReplicaSet;
 
 /// What carries to other parties what a replica says: links in one process, or wires between processes. What it can't take is
 /// lost, as on any network.

@@ -1,12 +1,10 @@
 //! The requests that a replica keeps.
 
-use crate::replica_set::ReplicaSet;
-use crate::suspects::Suspects;
-use crate::vouchers::are_enough;
 use bytes::Bytes;
 use ids::{ClientId, Config, ReplicaId, Seq};
 use std::alloc::Global;
 use std::collections::BTreeMap;
+use suspicion::{ReplicaSet, Suspects, are_enough};
 
 /// A client's request, as it came.
 #[derive(Drop)]

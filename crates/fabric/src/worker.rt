@@ -10,7 +10,6 @@ use crate::parcel::Parcel;
 use crate::questioned::Questioned;
 use crate::queue::Question;
 use crate::recording::Recording;
-use crate::replica_set::ReplicaSet;
 use crate::waiting::WaitingRoom;
 use admission::Input;
 use asking::Ask;
@@ -22,6 +21,7 @@ use signed_frames::{Out, Sending, To, WorkerKeyring};
 use std::alloc::Global;
 use std::sync::Wait;
 use std::time::Clock;
+use suspicion::ReplicaSet;
 use tuning::QUESTION_PACE;
 use turns::{Gate, Prompt, Share, Steps};
 

@@ -6,16 +6,15 @@ ghost use Rattle.clock.specs.Pruning as pruning;
 use catching_up::is_beyond;
 use clock::lacks_next;
 use ids::{Height, MOST_REPLICAS, ReplicaId};
-use log::{Log, info, warn};
-use station::{Progress, Station};
+use log::Log;
+use station::{Progress, Seen, Station};
 use std::sync::Wait;
-use tuning::{BEHIND_TOLD_SECONDS, VAIN_SECONDS};
 
 /// Whether a replica has executed nothing since it had come to a height, and lacks the next block where the
 /// others have this horizon.
-fn is_stuck(reach: Progress, before: Height, horizon: Height) -> bool
+fn is_stuck(reach: &Progress, before: Height, horizon: Height) -> bool
     ensures { result
-        ≡ (reach.goes_on && (reach.height == before) && pruning.lacks_next horizon reach.height) }
+        ≡ (reach.now.goes_on && (reach.now.height == before) && pruning.lacks_next horizon reach.now.height) }
 {
     let stands = reach.height.0 == before.0;
     reach.goes_on && stands && lacks_next(horizon, reach.height)
@@ -43,30 +42,6 @@ fn recorded<R: Wait>(rt: &R, stations: &[Station<'_>], but: ReplicaId) -> [Heigh
     recorded
 }
 
-/// How a replica gets on.
-#[derive(Clone, Copy, PartialEq, Eq)]
-enum Way {
-    /// With the others.
-    AtOne,
-    /// It is far behind, and takes what others recorded.
-    CatchesUp,
-    /// It is far behind, and what others recorded brought nothing for some time.
-    InVain,
-    /// None of the others has the next block that it needs any more, and it isn't on its way to it.
-    Stuck,
-}
-
-/// What was seen of a replica.
-#[derive(Clone, Copy)]
-struct Seen {
-    height: Height,
-    way: Way,
-    /// For how many seconds it has been far behind, and executed nothing.
-    still: u64,
-    /// For how many seconds it has been far behind.
-    away: u64,
-}
-
 /// How replicas were seen to get on.
 #[derive(Clone, Copy)]
 pub(crate) struct Laggards {
@@ -76,14 +51,8 @@ pub(crate) struct Laggards {
 impl Laggards {
     /// All with the others.
     pub(crate) fn none() -> Laggards {
-        let seen = Seen {
-            height: Height(0),
-            way: Way::AtOne,
-            still: 0,
-            away: 0,
-        };
         Laggards {
-            seen: [seen; MOST_REPLICAS],
+            seen: [Seen::none(); MOST_REPLICAS],
         }
     }
 
@@ -93,23 +62,22 @@ impl Laggards {
         for station in stations {
             let place = usize::from(station.number().0);
             if let Some(before) = self.seen.get(place).copied() {
-                self.seen[place] = look_at(rt, stations, station, before);
+                self.seen[place] = look_at(rt, stations, station, &before);
             }
         }
     }
 }
 
-/// How a replica gets on that has been still for so many seconds, where nobody keeps what it needs, or some do.
-fn way_of(reach: Progress, is_stuck: bool, still: u64) -> Way {
-    if is_stuck {
-        Way::Stuck
-    } else if !reach.is_away {
-        Way::AtOne
-    } else if still >= VAIN_SECONDS {
-        Way::InVain
-    } else {
-        Way::CatchesUp
-    }
+/// Whether a replica that had come to a height is stuck: nobody else keeps the next block that it needs, or recorded it.
+fn has_lost<R: Wait>(
+    rt: &R,
+    stations: &[Station<'_>],
+    number: ReplicaId,
+    reach: &Progress,
+    before: Height,
+) -> bool {
+    let horizon = lowest_horizon(rt, stations, number);
+    is_stuck(reach, before, horizon) && is_beyond(reach.height, &recorded(rt, stations, number))
 }
 
 /// What is seen of the replica at a station, of which this was seen before; and tells of it.
@@ -117,53 +85,9 @@ fn look_at<R: Wait + Log>(
     rt: &R,
     stations: &[Station<'_>],
     station: &Station<'_>,
-    before: Seen,
+    before: &Seen,
 ) -> Seen {
-    let number = station.number();
-    let horizon = lowest_horizon(rt, stations, number);
     let reach = station.progress(rt);
-    let is_still = reach.is_away && reach.height == before.height;
-    let still = if is_still {
-        before.still.saturating_add(1)
-    } else {
-        0
-    };
-    let is_stuck = is_stuck(reach, before.height, horizon)
-        && is_beyond(reach.height, &recorded(rt, stations, number));
-    let seen = Seen {
-        height: reach.height,
-        way: way_of(reach, is_stuck, still),
-        still,
-        away: if reach.is_away {
-            before.away.saturating_add(1)
-        } else {
-            0
-        },
-    };
-    if reach.goes_on {
-        tell(rt, station, before, seen);
-    }
-    seen
-}
-
-/// Tells of what has changed; and now and then how far one is that catches up.
-fn tell<R: Log>(rt: &R, station: &Station<'_>, before: Seen, now: Seen) {
-    let number = station.number().0;
-    if now.way == Way::CatchesUp && before.away % BEHIND_TOLD_SECONDS == 0 {
-        let foremost = station.foremost();
-        let behind = foremost.0.saturating_sub(now.height.0);
-        let rate = now.height.0.saturating_sub(before.height.0);
-        info!(rt; "replica {number} is {behind} heights behind, and catches up, {rate} a second");
-    }
-    if now.way == before.way {
-        return;
-    }
-    match now.way {
-        Way::AtOne => info!(rt; "replica {number} goes on again"),
-        Way::InVain =>
-            warn!(rt; "replica {number} is stuck: what others recorded isn't right for it"),
-        Way::Stuck =>
-            warn!(rt; "replica {number} is stuck: the others have forgotten blocks that it needs"),
-        Way::CatchesUp => {}
-    }
+    let is_stuck = has_lost(rt, stations, station.number(), &reach, before.height());
+    before.look(rt, station, reach, is_stuck)
 }

@@ -2,7 +2,6 @@
 //! connect to.
 #![tactic(auto)]
 
-mod client_seat;
 mod doubted;
 mod ending;
 mod floods;

@@ -7,12 +7,11 @@ ghost use Rattle.ids.specs.declared.fault.Fault.TheVariants.{AcceptFailed, Memor
 ghost use Rattle.marks.specs.Eyes.{first_eye, first_eyes};
 ghost use Rattle.server.specs.Ends.{IsEnd, IsAudited, IsNoRun};
 
-use crate::client_seat::seats;
 use crate::ending::{EndAudit, judge_by_terms};
 use crate::local::Local;
 use crate::roll::Roll;
 use crate::watching::Board;
-use client_seats::ClientSeat;
+use client_seats::{ClientSeat, seats};
 use fabric::{ClientEnd, Ends, Inbox, Links};
 use ids::Fault;
 use key_file::PairKeys;

@@ -1,5 +1,3 @@
-pub mod Sets
 mod Lies
 mod Numbers
 mod Sharing
-mod Doubting

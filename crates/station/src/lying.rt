@@ -4,7 +4,7 @@ use crate::beside::{Beside, Wrong};
 use crate::station::Station;
 use bytes::Bytes;
 use catching_up::Question;
-use fabric::{Outgoing, Post, Questioned, Recording, ReplicaSet, Sender};
+use fabric::{Outgoing, Post, Questioned, Recording, Sender};
 use ids::{Digest, Height, Kind, ReplicaId};
 use liars::{Lies, Lying};
 use signed_frames::{Sending, To};
@@ -13,6 +13,7 @@ use std::sync::atomic::AtomicU64;
 use std::sync::atomic::Ordering::SeqCst;
 use std::sync::{Mutex, Wait};
 use std::time::{Clock, Duration, Instant};
+use suspicion::ReplicaSet;
 
 /// What a worker of a replica that lies begins with.
 #[derive(Drop)]

@@ -7,12 +7,13 @@ use asking::{Ask, BlockCopy};
 use authenticators::VerifyingKeyring;
 use bytes::Bytes;
 use catching_up::Question;
-use fabric::{Outgoing, Post, Questioned, Recording, ReplicaSet};
+use fabric::{Outgoing, Post, Questioned, Recording};
 use ids::{Digest, Height, ReplicaId, View};
 use signed_frames::Sending;
 use std::alloc::{AllocError, Global};
 use std::sync::Wait;
 use std::time::{Clock, Instant};
+use suspicion::ReplicaSet;
 use tuning::QUESTION_PAUSE_MILLIS;
 
 /// The frames of copies.

@@ -1,13 +1,11 @@
 //! Whose votes a leader passes over.
 
-use crate::doubts::{Doubt, doubt_in};
-use crate::passing::Passing;
 use authenticators::VerifyingKeyring;
-use fabric::ReplicaSet;
 use ids::{Config, ReplicaId, View};
 use std::sync::atomic::Ordering::SeqCst;
 use std::sync::atomic::{AtomicBool, AtomicU64};
 use std::sync::{Mutex, Wait};
+use suspicion::{Doubt, Passing, ReplicaSet, doubt_in};
 
 /// The replicas whose votes a replica passes over where it leads, under their lock.
 #[derive(Drop)]
@@ -49,7 +47,7 @@ impl PassedOver {
         if !self.is_asked.swap(false, SeqCst) {
             return None;
         }
-        let doubt = doubt_in(keyring, bytes).filter(|doubt| doubt.wrong.len() > 0)?;
+        let doubt = doubt_in(keyring, bytes)?;
         self.passing.lock(rt).find(doubt.wrong);
         self.are_any.store(true, SeqCst);
         Some(doubt)

@@ -1,0 +1,3 @@
+mod Doubting
+mod Places
+mod Sets

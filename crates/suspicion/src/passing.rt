@@ -1,0 +1,178 @@
+//! Which replicas a leader does without.
+
+ghost use Rattle.std.specs.Prelude.{◌≡◌, ◌||◌, ◌<◌, ◌≤◌, ℕ, true, get_or, replicate};
+ghost use Rattle.std.specs.Bool.{OnFalse, OnTrue};
+ghost use Rattle.ids.specs.declared.limits.TheConstants.{MOST_REPLICAS};
+ghost use Rattle.suspicion.specs.ReplicaSets.{is_in, nobody, size};
+ghost use Rattle.suspicion.specs.Passing.{is_sure, tellers, Has, HasNoOther};
+
+use crate::replica_set::ReplicaSet;
+use ids::{Config, MOST_REPLICAS, ReplicaId};
+use std::marker::Model;
+
+/// The replicas whose votes weren't right for this one in certificates of its leaders, or for others in certificates of this
+/// one. A certificate with such a vote may be good for its leader alone, or for all but one, who then falls behind. So a leader
+/// does without it as long as it finds others'.
+///
+/// What a leader's certificate shows may be made up by that leader, and what others tell by them. So those that are passed
+/// over are never more than may be faulty; and where the replica leads from its lock all is forgotten, and who told
+/// something isn't heard any more in this view, unless more than may be faulty tell the same.
+#[derive(Drop)]
+pub struct Passing {
+    /// As many as may be faulty.
+    most: usize,
+    voters: ReplicaSet,
+    /// Whose votes weren't right for each replica, by what it told.
+    told: [ReplicaSet; MOST_REPLICAS],
+    /// Who told something.
+    tellers: ReplicaSet,
+    /// Who isn't heard.
+    unheard: ReplicaSet,
+}
+
+impl Model for Passing {
+    ghost use Rattle.std.specs.Prelude.{◌≤◌};
+    ghost use Rattle.suspicion.specs.ReplicaSets as sets;
+    ghost use Rattle.suspicion.specs.Passing.{PassingState};
+
+    ghost Value = { PassingState };
+
+    ghost view = { λ p. record {
+      most = p.most;
+      voters = p.voters;
+      told = p.told;
+      tellers = p.tellers;
+      unheard = p.unheard;
+    } };
+
+    ghost invariant = { λ p. sets.size p.voters ≤ p.most };
+}
+
+impl Passing {
+    /// Nobody is passed over, nothing was told, and these aren't heard.
+    fn without(most: usize, unheard: ReplicaSet) -> Passing
+        ensures { result ≡ record {
+          most = most;
+          voters = nobody;
+          told = replicate MOST_REPLICAS nobody;
+          tellers = nobody;
+          unheard = unheard;
+        } }
+    {
+        Passing {
+            most,
+            voters: ReplicaSet::none(),
+            told: [ReplicaSet::none(); MOST_REPLICAS],
+            tellers: ReplicaSet::none(),
+            unheard,
+        }
+    }
+
+    /// Nobody is passed over among the replicas of these sizes, and all are heard.
+    pub fn none(config: Config) -> Passing
+        ensures most { result.most ≡ config.faults }
+        ensures voters { result.voters ≡ nobody }
+        ensures unheard { result.unheard ≡ nobody }
+    {
+        Passing::without(usize::from(config.faults()), ReplicaSet::none())
+    }
+
+    /// Whether a replica is passed over.
+    pub fn has(&self, voter: ReplicaId) -> bool
+        ensures { result ≡ is_in self.now.voters voter }
+    {
+        self.voters.has(voter)
+    }
+
+    /// Votes of these weren't right, in a certificate of one leader or by what more replicas told than may be faulty. With
+    /// those of before they are passed over; or where that would be too many, they alone; or where they are too many
+    /// themselves, those of before.
+    pub fn find(&mut self, found: ReplicaSet)
+        ensures found { size found ≤ self.old.most → Has self.new.voters found }
+        ensures no_other { HasNoOther self.new.voters self.old.voters found }
+        ensures rest { self.new ≡ record self.old { voters = self.new.voters } }
+    {
+        let both = self.voters.or(&found);
+        if both.len() <= self.most {
+            self.voters = both;
+        } else if found.len() <= self.most {
+            self.voters = found;
+        }
+    }
+
+    /// How many replicas told that a voter's votes weren't right for them.
+    fn tellers(&self, voter: ReplicaId) -> usize
+        ensures { result ≡ tellers self.now.told voter }
+    {
+        self.told.iter().filter(|voters| voters.has(voter)).count()
+    }
+
+    /// Those of whom so many told this that one of them is correct.
+    fn sure(&self) -> ReplicaSet
+        ensures { (voter : ℕ) → voter < MOST_REPLICAS
+            → is_in result voter ≡ is_sure self.now.most self.now.told voter }
+    {
+        let mut sure = ReplicaSet::none();
+        for number in 0..MOST_REPLICAS as u8 {
+            if self.tellers(ReplicaId(number)) > self.most {
+                sure.add(ReplicaId(number));
+            }
+        }
+        sure
+    }
+
+    /// Whom to find where a replica told of these: these, if it is heard, else those of whom enough told.
+    fn believed(&self, from: ReplicaId, voters: &ReplicaSet) -> ReplicaSet
+        ensures heard { OnFalse (is_in self.now.unheard from) (result ≡ voters.now) }
+        ensures unheard { OnTrue (is_in self.now.unheard from)
+            ((voter : ℕ) → voter < MOST_REPLICAS
+            → is_in result voter ≡ is_sure self.now.most self.now.told voter) }
+    {
+        if self.unheard.has(from) {
+            self.sure()
+        } else {
+            *voters
+        }
+    }
+
+    /// A replica told that votes of these weren't right for it.
+    pub fn hear(&mut self, from: ReplicaId, voters: &ReplicaSet)
+        ensures heard { OnFalse (is_in self.old.unheard from)
+            (from < MOST_REPLICAS → size voters.now ≤ self.old.most → Has self.new.voters voters.now) }
+        ensures told { from < MOST_REPLICAS → Has (get_or self.new.told from nobody) voters.now }
+        ensures teller { from < MOST_REPLICAS → is_in self.new.tellers from ≡ true }
+        ensures unheard { OnTrue (is_in self.old.unheard from)
+            ((voter : ℕ) → voter < MOST_REPLICAS → is_in self.new.voters voter ≡ true
+            → (is_in self.old.voters voter || is_sure self.old.most self.new.told voter) ≡ true) }
+        ensures still { self.new.unheard ≡ self.old.unheard }
+        ensures most { self.new.most ≡ self.old.most }
+    {
+        let place = usize::from(from.0);
+        if place >= MOST_REPLICAS {
+            return;
+        }
+        self.told[place] = self.told[place].or(voters);
+        self.tellers.add(from);
+        let found = self.believed(from, voters);
+        self.find(found);
+    }
+
+    /// Nobody is passed over any more. Who told something isn't heard.
+    pub fn forget(&mut self)
+        ensures voters { self.new.voters ≡ nobody }
+        ensures told { self.new.told ≡ replicate MOST_REPLICAS nobody }
+        ensures unheard { (teller : ℕ) → teller < MOST_REPLICAS
+            → is_in self.new.unheard teller ≡ (is_in self.old.unheard teller || is_in self.old.tellers teller) }
+        ensures most { self.new.most ≡ self.old.most }
+    {
+        let unheard = self.unheard.or(&self.tellers);
+        *self = Passing::without(self.most, unheard);
+    }
+
+    /// Another view began: all are heard again.
+    pub fn hear_all(&mut self)
+        ensures { self.new ≡ record self.old { unheard = nobody } }
+    {
+        self.unheard = ReplicaSet::none();
+    }
+}
