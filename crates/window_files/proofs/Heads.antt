@@ -1,5 +1,5 @@
 -- The first lines: what a text begins with is one thing alone.
-use Rattle.std.proofs.Common.{◌≡◌, ℕ, ◌+◌, ◌-◌, ◌^◌, ◌<◌, List, ◌++◌, Some, None, arith, sym, ap, ◌∙◌}
+use Rattle.std.proofs.Common.{◌≡◌, ℕ, ◌-◌, ◌^◌, ◌<◌, List, ◌++◌, Some, None, arith, sym, ap, ◌∙◌}
 use Rattle.std.proofs.Common.{decimal, codes}
 use Rattle.ids.specs.Sizes.{Sizes}
 use Rattle.definitions.specs.Bytes.{Bytes}

@@ -7,6 +7,8 @@ use Rattle.definitions.specs.Bytes.{Bytes}
 use Rattle.definitions.specs.Lists.{Among, AreDistinct}
 use Rattle.definitions.specs.WindowAudit as audit
 use Rattle.window_files.specs.Files.{Window, shown, last_digest}
+use Rattle.window_files.specs.declared.judging.Lack.{Lack}
+use Rattle.window_files.specs.declared.judging.Lack.TheVariants.{Other, Missing}
 
 -- the numbers of the replicas
 abbrev pub numbers : List (Bor Window) → List ℕ
@@ -34,6 +36,11 @@ Differs k m = (d : Bytes) × (shown k.head.height m ≡ Some d) × (d ≡ last_d
 -- it shows none there
 abbrev pub Misses : (k m : Window) → Type 0
 Misses k m = shown k.head.height m ≡ None
+
+-- it lacks the one or the other
+abbrev pub Lacks : Lack → (k m : Window) → Type 0
+Lacks Other k m = Differs k m
+Lacks Missing k m = Misses k m
 
 -- m is the first of those that executed highest
 pub record Leads (ws : List Window) (m : Window) : Type 0 where

@@ -7,7 +7,7 @@ ghost use Rattle.definitions.specs.Lists.{Among, AreDistinct};
 ghost use Rattle.definitions.specs.Audit.{Judged};
 ghost use Rattle.definitions.specs.WindowAudit.{WindowsShow};
 ghost use Rattle.audit.specs.Verdicts.{window_verdict_of};
-ghost use Rattle.window_files.specs.Judging.{numbers, files, AreEnough, Leads, FilesShow, Differs, Misses};
+ghost use Rattle.window_files.specs.Judging.{numbers, files, AreEnough, Leads, FilesShow, Differs, Misses, Lacks};
 ghost use Rattle.window_files.specs.Windows.{AreOf};
 
 use crate::window::Window;
@@ -95,26 +95,32 @@ fn misses(window: &Window, leader: &Window) -> bool
     leader.shown(window.head().height).is_none()
 }
 
-/// The first that differs from the leader.
-fn find_other<'a>(windows: &[&'a Window], leader: &Window) -> Option<&'a Window>
-    ensures { MatchOption result (All (λ w. Differs w.now leader.now → ⊥) windows.now)
-        (λ w. Among w.now (files windows.now) × Differs w.now leader.now) }
-{
-    for window in windows {
-        if differs(window, leader) {
-            return Some(*window);
-        }
-    }
-    None
+/// What the leader's file may lack of another one's last executed block.
+#[derive(Clone, Copy)]
+enum Lack {
+    /// It shows another block at that height.
+    Other,
+    /// It shows none there.
+    Missing,
 }
 
-/// The first that the leader misses.
-fn find_missed<'a>(windows: &[&'a Window], leader: &Window) -> Option<&'a Window>
-    ensures { MatchOption result (All (λ w. Misses w.now leader.now → ⊥) windows.now)
-        (λ w. Among w.now (files windows.now) × Misses w.now leader.now) }
+/// Whether the leader's file lacks this of a window.
+fn lacks(window: &Window, leader: &Window, lack: Lack) -> bool
+    ensures { IsTrue result ↔ Lacks lack window.now leader.now }
+{
+    match lack {
+        Lack::Other => differs(window, leader),
+        Lack::Missing => misses(window, leader),
+    }
+}
+
+/// The first of which the leader's file lacks this.
+fn find<'a>(windows: &[&'a Window], leader: &Window, lack: Lack) -> Option<&'a Window>
+    ensures { MatchOption result (All (λ w. Lacks lack w.now leader.now → ⊥) windows.now)
+        (λ w. Among w.now (files windows.now) × Lacks lack w.now leader.now) }
 {
     for window in windows {
-        if misses(window, leader) {
+        if lacks(window, leader, lack) {
             return Some(*window);
         }
     }
@@ -127,11 +133,11 @@ fn compare(windows: &[&Window], leader: &Window) -> WindowVerdict
     ensures { FilesShow (files windows.now) (window_verdict_of result) }
 {
     let higher = leader.head().number;
-    if let Some(other) = find_other(windows, leader) {
+    if let Some(other) = find(windows, leader, Lack::Other) {
         let lower = other.head().number;
         return WindowVerdict::Fork { lower, higher };
     }
-    match find_missed(windows, leader) {
+    match find(windows, leader, Lack::Missing) {
         Some(missed) => {
             let lower = missed.head().number;
             WindowVerdict::Unmet { lower, higher }

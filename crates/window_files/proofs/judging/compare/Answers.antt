@@ -16,16 +16,16 @@ returns-in-Some c = record {
   related = c.in-Some.ensures.1;
 }
 
-pub returns-in-Some-find_missed : goal.returns-in-Some-find_missed
-returns-in-Some-find_missed c = (
+pub returns-in-Some-find : goal.returns-in-Some-find
+returns-in-Some-find c = (
   record {
-    lower = c.in-Some-find_missed.missed.now;
+    lower = c.in-Some-find.missed.now;
     higher = c.args.leader.now;
-    judged = c.in-Some-find_missed.ensures.0;
+    judged = c.in-Some-find.ensures.0;
     leads = c.requires;
-    lower_number = sym (ap (λ (h : Head). h.number) c.head-in-Some-find_missed.ensures);
+    lower_number = sym (ap (λ (h : Head). h.number) c.head-in-Some-find.ensures);
     higher_number = sym (ap (λ (h : Head). h.number) c.head.ensures);
-    related = c.in-Some-find_missed.ensures.1;
+    related = c.in-Some-find.ensures.1;
   },
   none_of_files (λ (w : Window). Differs w c.args.leader.now) c.args.windows.now c.in_default.ensures,
 )

@@ -1,8 +1,0 @@
--- None before is missed.
-use Rattle.std.proofs.Common.{take}
-use Rattle.std.specs.List.{All}
-use Rattle.window_files.specs.Judging.{Misses}
-use Rattle.window_files.proofs.judging.find_missed.Given as goal
-
-abbrev pub invariant-loop-window : goal.invariant-loop-window
-invariant-loop-window l = All (λ x. Misses x.now l.leader → ⊥) (take l.window-index l.windows)
