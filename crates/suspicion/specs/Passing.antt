@@ -1,7 +1,7 @@
 -- Whose votes a leader passes over.
-use Rattle.std.specs.Prelude.{ℕ, ◌≡◌, ◌<◌, ◌||◌, Bool, true, List, count_by, nat_lt}
+use Rattle.std.specs.Prelude.{ℕ, ◌≡◌, ◌<◌, ◌||◌, Bool, true, List, count_by, nat_lt, replicate}
 use Rattle.ids.specs.declared.limits.TheConstants.{MOST_REPLICAS}
-use Rattle.suspicion.specs.ReplicaSets.{is_in}
+use Rattle.suspicion.specs.ReplicaSets.{is_in, nobody}
 
 -- at most so many are passed over: these; what each replica told, who told something, and who isn't heard
 pub record PassingState : Type 0 where
@@ -10,6 +10,16 @@ pub record PassingState : Type 0 where
   pub told : List (List Bool)
   pub tellers : List Bool
   pub unheard : List Bool
+
+-- nobody is passed over, nothing was told, and these aren't heard
+abbrev pub without : (most : ℕ) → (unheard : List Bool) → PassingState
+without most unheard = record {
+  most = most;
+  voters = nobody;
+  told = replicate MOST_REPLICAS nobody;
+  tellers = nobody;
+  unheard = unheard;
+}
 
 -- so many replicas told that a voter's votes weren't right for them, where this is what each told
 abbrev pub tellers : (told : List (List Bool)) → (voter : ℕ) → ℕ

@@ -1,6 +1,6 @@
 -- Whose requests a leader lets in, where what it proposes finds no certificate.
-use Rattle.std.specs.Prelude.{◌≡◌, ℕ, ◌+◌, ◌-◌, ◌*◌, ◌^◌, ◌%◌, ◌==◌, ◌&&◌, ◌||◌, Bool, true, false, not, max, min, Option, Some, None}
-use Rattle.std.specs.Prelude.{if◌then◌else◌, is_none, nat_le, nat_lt, option_map, slice_index_or, slice_set}
+use Rattle.std.specs.Prelude.{ℕ, ◌+◌, ◌-◌, ◌*◌, ◌^◌, ◌%◌, ◌==◌, ◌&&◌, ◌||◌, Bool, true, false, not, max, min, Option, Some, None}
+use Rattle.std.specs.Prelude.{if◌then◌else◌, is_none, nat_le, nat_lt, option_map, replicate, slice_index_or, slice_set}
 use Rattle.tuning.specs.declared.clocks.TheConstants.{LAG_WEIGHT}
 use Rattle.tuning.specs.declared.clients.TheConstants.{BAR_MILLIS, MOST_DOUBLINGS, TRIAL_STRIDE}
 use Rattle.suspicion.specs.declared.suspects.Standing.{Standing}
@@ -15,9 +15,19 @@ capped n = min n (2 ^ 64 - 1)
 abbrev pub fresh : Standing
 fresh = record { cleared_in = 0; vain = 0; failures = 0; barred_until = 0; doubts = 0; doubted_until = 0 }
 
--- nobody is suspected, on trial, barred or doubted
-abbrev pub IsCalm : Suspects → Type 0
-IsCalm s = (s.is_on ≡ false) × (s.trial ≡ None) × (s.wary_until ≡ 0)
+-- nothing is known of any client
+abbrev pub calm : Suspects
+calm = record {
+  is_on = false;
+  by_trial = false;
+  round = 0;
+  has_cleared = false;
+  clears_others = false;
+  trial = None;
+  pause_until = 0;
+  wary_until = 0;
+  standings = replicate 256 fresh;
+}
 
 abbrev pub standing_of : Suspects → ℕ → Standing
 standing_of s client = slice_index_or s.standings client fresh

@@ -1,10 +1,10 @@
 //! Which replicas a leader does without.
 
-ghost use Rattle.std.specs.Prelude.{◌≡◌, ◌||◌, ◌<◌, ◌≤◌, ℕ, true, get_or, replicate};
+ghost use Rattle.std.specs.Prelude.{◌≡◌, ◌||◌, ◌<◌, ◌≤◌, ℕ, true, get_or};
 ghost use Rattle.std.specs.Bool.{OnFalse, OnTrue};
 ghost use Rattle.ids.specs.declared.limits.TheConstants.{MOST_REPLICAS};
 ghost use Rattle.suspicion.specs.ReplicaSets.{is_in, nobody, size};
-ghost use Rattle.suspicion.specs.Passing.{is_sure, tellers, Has, HasNoOther};
+ghost use Rattle.suspicion.specs.Passing.{is_sure, tellers, without, Has, HasNoOther};
 
 use crate::replica_set::ReplicaSet;
 use ids::{Config, MOST_REPLICAS, ReplicaId};
@@ -51,13 +51,7 @@ impl Model for Passing {
 impl Passing {
     /// Nobody is passed over, nothing was told, and these aren't heard.
     fn without(most: usize, unheard: ReplicaSet) -> Passing
-        ensures { result ≡ record {
-          most = most;
-          voters = nobody;
-          told = replicate MOST_REPLICAS nobody;
-          tellers = nobody;
-          unheard = unheard;
-        } }
+        ensures { result ≡ without most unheard }
     {
         Passing {
             most,
@@ -70,9 +64,7 @@ impl Passing {
 
     /// Nobody is passed over among the replicas of these sizes, and all are heard.
     pub fn none(config: Config) -> Passing
-        ensures most { result.most ≡ config.faults }
-        ensures voters { result.voters ≡ nobody }
-        ensures unheard { result.unheard ≡ nobody }
+        ensures { result ≡ without config.faults nobody }
     {
         Passing::without(usize::from(config.faults()), ReplicaSet::none())
     }
@@ -159,11 +151,9 @@ impl Passing {
 
     /// Nobody is passed over any more. Who told something isn't heard.
     pub fn forget(&mut self)
-        ensures voters { self.new.voters ≡ nobody }
-        ensures told { self.new.told ≡ replicate MOST_REPLICAS nobody }
+        ensures all { self.new ≡ without self.old.most self.new.unheard }
         ensures unheard { (teller : ℕ) → teller < MOST_REPLICAS
             → is_in self.new.unheard teller ≡ (is_in self.old.unheard teller || is_in self.old.tellers teller) }
-        ensures most { self.new.most ≡ self.old.most }
     {
         let unheard = self.unheard.or(&self.tellers);
         *self = Passing::without(self.most, unheard);

@@ -2,7 +2,7 @@
 
 ghost use Rattle.std.specs.Prelude.{◌≡◌};
 ghost use Rattle.suspicion.specs.Suspecting.{bar_of, barred, begun, begun_with_others, convicted, doubted, ended};
-ghost use Rattle.suspicion.specs.Suspecting.{IsCalm, has_passed, is_cleared, is_due, is_let_in, is_let_in_vouched, is_on_trial, is_suspected};
+ghost use Rattle.suspicion.specs.Suspecting.{calm, has_passed, is_cleared, is_due, is_let_in, is_let_in_vouched, is_on_trial, is_suspected};
 ghost use Rattle.suspicion.specs.Suspecting.{is_wary, may_try, paused, place_of, served, standing_of, suspecting, tried};
 ghost use Rattle.suspicion.specs.Suspecting.{tried_in_vain, vouched, waited};
 
@@ -81,7 +81,7 @@ fn bar_of(failures: u32) -> u64
 impl Suspects {
     /// Nobody is suspected.
     pub fn new() -> Suspects
-        ensures { IsCalm result }
+        ensures { result ≡ calm }
     {
         let fresh = Standing {
             cleared_in: 0,
