@@ -1,3 +1,4 @@
 mod Doubting
+mod Passed
 mod Places
 mod Sets

@@ -1,7 +1,7 @@
 -- Whose votes a leader passes over.
-use Rattle.std.specs.Prelude.{ℕ, ◌≡◌, ◌<◌, ◌||◌, Bool, true, List, count_by, nat_lt, replicate}
+use Rattle.std.specs.Prelude.{ℕ, Bool, List, count_by, get_or, nat_le, nat_lt, replicate, slice_set, if◌then◌else◌}
 use Rattle.ids.specs.declared.limits.TheConstants.{MOST_REPLICAS}
-use Rattle.suspicion.specs.ReplicaSets.{is_in, nobody}
+use Rattle.suspicion.specs.ReplicaSets.{both, is_in, nobody, size, those, with_replica}
 
 -- at most so many are passed over: these; what each replica told, who told something, and who isn't heard
 pub record PassingState : Type 0 where
@@ -25,15 +25,31 @@ without most unheard = record {
 abbrev pub tellers : (told : List (List Bool)) → (voter : ℕ) → ℕ
 tellers told voter = count_by (λ voters. is_in voters voter) told
 
--- one of them is correct
-abbrev pub is_sure : (faults : ℕ) → (told : List (List Bool)) → (voter : ℕ) → Bool
-is_sure faults told voter = nat_lt faults (tellers told voter)
+-- those of whom so many told this that one of them is correct
+abbrev pub sure : (faults : ℕ) → (told : List (List Bool)) → List Bool
+sure faults told = those (λ voter. nat_lt faults (tellers told voter))
 
--- nobody is in it but those of the two others
-abbrev pub HasNoOther : (set some others : List Bool) → Type 0
-HasNoOther set some others =
-    (v : ℕ) → v < MOST_REPLICAS → is_in set v ≡ true → (is_in some v || is_in others v) ≡ true
+-- who is passed over once these were found: those of before, too, or else these alone, unless they are too many themselves
+abbrev pub passed : (most : ℕ) → (before found : List Bool) → List Bool
+passed most before found =
+    if nat_le (size (both before found)) most then both before found
+    else (if nat_le (size found) most then found else before)
 
--- all of one set are in the other
-abbrev pub Has : (set some : List Bool) → Type 0
-Has set some = (v : ℕ) → v < MOST_REPLICAS → is_in some v ≡ true → is_in set v ≡ true
+-- whom to find where a replica told of these, once it's noted: these, if it is heard
+abbrev pub believed : PassingState → (from : ℕ) → (voters : List Bool) → List Bool
+believed p from voters = if is_in p.unheard from then sure p.most p.told else voters
+
+-- a replica told of these: it's noted
+abbrev pub noted : PassingState → (from : ℕ) → (voters : List Bool) → PassingState
+noted p from voters = record p {
+  told = slice_set p.told from (both (get_or p.told from nobody) voters);
+  tellers = with_replica p.tellers from;
+}
+
+-- and they are found as far as it's believed
+abbrev pub found : PassingState → (voters : List Bool) → PassingState
+found p voters = record p { voters = passed p.most p.voters voters }
+
+abbrev pub heard : PassingState → (from : ℕ) → (voters : List Bool) → PassingState
+heard p from voters =
+    if nat_lt from MOST_REPLICAS then found (noted p from voters) (believed (noted p from voters) from voters) else p

@@ -1,10 +1,9 @@
 //! Which replicas a leader does without.
 
-ghost use Rattle.std.specs.Prelude.{◌≡◌, ◌||◌, ◌<◌, ◌≤◌, ℕ, true, get_or};
-ghost use Rattle.std.specs.Bool.{OnFalse, OnTrue};
+ghost use Rattle.std.specs.Prelude.{◌≡◌, ◌<◌, ◌≤◌};
 ghost use Rattle.ids.specs.declared.limits.TheConstants.{MOST_REPLICAS};
-ghost use Rattle.suspicion.specs.ReplicaSets.{is_in, nobody, size};
-ghost use Rattle.suspicion.specs.Passing.{is_sure, tellers, without, Has, HasNoOther};
+ghost use Rattle.suspicion.specs.ReplicaSets.{both, is_in, nobody, size};
+ghost use Rattle.suspicion.specs.Passing.{believed, found, heard, noted, passed, sure, tellers, without};
 
 use crate::replica_set::ReplicaSet;
 use ids::{Config, MOST_REPLICAS, ReplicaId};
@@ -48,6 +47,22 @@ impl Model for Passing {
     ghost invariant = { λ p. sets.size p.voters ≤ p.most };
 }
 
+/// Who is passed over once votes of these weren't right: they with those of before; or where that would be too many, they
+/// alone; or where they are too many themselves, those of before.
+fn passed(most: usize, before: ReplicaSet, found: ReplicaSet) -> ReplicaSet
+    ensures set { result ≡ passed most before found }
+    ensures few { size before ≤ most → size result ≤ most }
+{
+    let both = before.or(&found);
+    if both.len() <= most {
+        both
+    } else if found.len() <= most {
+        found
+    } else {
+        before
+    }
+}
+
 impl Passing {
     /// Nobody is passed over, nothing was told, and these aren't heard.
     fn without(most: usize, unheard: ReplicaSet) -> Passing
@@ -76,20 +91,11 @@ impl Passing {
         self.voters.has(voter)
     }
 
-    /// Votes of these weren't right, in a certificate of one leader or by what more replicas told than may be faulty. With
-    /// those of before they are passed over; or where that would be too many, they alone; or where they are too many
-    /// themselves, those of before.
-    pub fn find(&mut self, found: ReplicaSet)
-        ensures found { size found ≤ self.old.most → Has self.new.voters found }
-        ensures no_other { HasNoOther self.new.voters self.old.voters found }
-        ensures rest { self.new ≡ record self.old { voters = self.new.voters } }
+    /// Votes of these weren't right, in a certificate of one leader or by what more replicas told than may be faulty.
+    pub fn find(&mut self, voters: ReplicaSet)
+        ensures { self.new ≡ found self.old voters }
     {
-        let both = self.voters.or(&found);
-        if both.len() <= self.most {
-            self.voters = both;
-        } else if found.len() <= self.most {
-            self.voters = found;
-        }
+        self.voters = passed(self.most, self.voters, voters);
     }
 
     /// How many replicas told that a voter's votes weren't right for them.
@@ -101,8 +107,7 @@ impl Passing {
 
     /// Those of whom so many told this that one of them is correct.
     fn sure(&self) -> ReplicaSet
-        ensures { (voter : ℕ) → voter < MOST_REPLICAS
-            → is_in result voter ≡ is_sure self.now.most self.now.told voter }
+        ensures { result ≡ sure self.now.most self.now.told }
     {
         let mut sure = ReplicaSet::none();
         for number in 0..MOST_REPLICAS as u8 {
@@ -115,10 +120,7 @@ impl Passing {
 
     /// Whom to find where a replica told of these: these, if it is heard, else those of whom enough told.
     fn believed(&self, from: ReplicaId, voters: &ReplicaSet) -> ReplicaSet
-        ensures heard { OnFalse (is_in self.now.unheard from) (result ≡ voters.now) }
-        ensures unheard { OnTrue (is_in self.now.unheard from)
-            ((voter : ℕ) → voter < MOST_REPLICAS
-            → is_in result voter ≡ is_sure self.now.most self.now.told voter) }
+        ensures { result ≡ believed self.now from voters.now }
     {
         if self.unheard.has(from) {
             self.sure()
@@ -127,33 +129,31 @@ impl Passing {
         }
     }
 
-    /// A replica told that votes of these weren't right for it.
-    pub fn hear(&mut self, from: ReplicaId, voters: &ReplicaSet)
-        ensures heard { OnFalse (is_in self.old.unheard from)
-            (from < MOST_REPLICAS → size voters.now ≤ self.old.most → Has self.new.voters voters.now) }
-        ensures told { from < MOST_REPLICAS → Has (get_or self.new.told from nobody) voters.now }
-        ensures teller { from < MOST_REPLICAS → is_in self.new.tellers from ≡ true }
-        ensures unheard { OnTrue (is_in self.old.unheard from)
-            ((voter : ℕ) → voter < MOST_REPLICAS → is_in self.new.voters voter ≡ true
-            → (is_in self.old.voters voter || is_sure self.old.most self.new.told voter) ≡ true) }
-        ensures still { self.new.unheard ≡ self.old.unheard }
-        ensures most { self.new.most ≡ self.old.most }
+    /// What a replica told is noted.
+    fn note(&mut self, from: ReplicaId, voters: &ReplicaSet)
+        requires { from < MOST_REPLICAS }
+        ensures { self.new ≡ noted self.old from voters.now }
     {
         let place = usize::from(from.0);
-        if place >= MOST_REPLICAS {
-            return;
-        }
         self.told[place] = self.told[place].or(voters);
         self.tellers.add(from);
-        let found = self.believed(from, voters);
-        self.find(found);
+    }
+
+    /// A replica told that votes of these weren't right for it.
+    pub fn hear(&mut self, from: ReplicaId, voters: &ReplicaSet)
+        ensures { self.new ≡ heard self.old from voters.now }
+    {
+        if usize::from(from.0) >= MOST_REPLICAS {
+            return;
+        }
+        self.note(from, voters);
+        let voters = self.believed(from, voters);
+        self.find(voters);
     }
 
     /// Nobody is passed over any more. Who told something isn't heard.
     pub fn forget(&mut self)
-        ensures all { self.new ≡ without self.old.most self.new.unheard }
-        ensures unheard { (teller : ℕ) → teller < MOST_REPLICAS
-            → is_in self.new.unheard teller ≡ (is_in self.old.unheard teller || is_in self.old.tellers teller) }
+        ensures { self.new ≡ without self.old.most (both self.old.unheard self.old.tellers) }
     {
         let unheard = self.unheard.or(&self.tellers);
         *self = Passing::without(self.most, unheard);

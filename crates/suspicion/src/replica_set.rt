@@ -2,7 +2,7 @@
 
 ghost use Rattle.std.specs.Prelude.{◌≡◌, ◌==◌, ◌<◌, ◌≤◌, ◌||◌, ◌&&◌, ℕ, nat_lt};
 ghost use Rattle.ids.specs.declared.limits.TheConstants.{MOST_REPLICAS};
-ghost use Rattle.suspicion.specs.ReplicaSets.{is_in, nobody, size, with_replica};
+ghost use Rattle.suspicion.specs.ReplicaSets.{both, is_in, nobody, size, with_replica};
 
 use ids::{MOST_REPLICAS, ReplicaId};
 use std::marker::Model;
@@ -65,8 +65,7 @@ impl ReplicaSet {
 
     /// Those of both.
     pub fn or(&self, others: &ReplicaSet) -> ReplicaSet
-        ensures { (replica : ℕ) → replica < MOST_REPLICAS
-            → is_in result replica ≡ (is_in self.now replica || is_in others.now replica) }
+        ensures { result ≡ both self.now others.now }
     {
         let mut all = *self;
         for number in 0..MOST_REPLICAS {
