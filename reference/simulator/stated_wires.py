@@ -362,6 +362,45 @@ def windows():
     yield from ("judge " + " ".join(text_field(text_of(one)) for one in some) for some in judgements())
 
 
+# ---- whom a replica believes
+
+
+def trials():
+    """Each way that trouble goes, of clients 0 to 3."""
+    suspected = "begin@100 show@101 vouch=1 vouch=2 show@102"
+    again = suspected + " begin@200 show@200"
+    tried = again + " try=2:7@210 show@211 wait serve=2:7 show@220 try=0:3@230 wait"
+    yield "show@0 end vouch=1 wait serve=1:1 show@1"
+    yield suspected + " end show@103"
+    yield suspected + " doubt=0@110 doubt=3@110 end show@1109 show@1110 doubt=0@1200 show@3199 show@3200"
+    yield again + " vouch=3 show@201 end show@202"
+    yield tried + " show@231 begin@260 show@260 show@349 show@350 show@1259 show@1260"      # 0 spoils, as 2 passed
+    yield tried + " begin@260 try=1:9@350 begin@400 show@400 try=1:9@410 serve=1:8 show@411 serve=1:9 show@412"
+    yield tried + " begin@260 try=1:9@350 wait serve=1:9 try=0:3@1300 wait begin@1310 show@3309 show@3310"
+    yield again + " try=2:7@210 serve=2:7 try=0:3@230 begin@260 show@260"                   # answered at once: clears none
+    yield again + " try=2:7@210 lock@240 show@240 show@329 show@330 try=2:8@340 wait serve=2:8 show@350 end show@351"
+    yield "lock@5 show@5 vouch=1 show@6"
+    spoils = " ".join(f"try=0:{k}@{9000 * k} wait serve=0:{k} try=1:{k}@{9000 * k + 10} wait begin@{9000 * k + 20} "
+                      f"show@{9000 * k + 1019} show@{9000 * k + 8999}" for k in range(1, 10))
+    yield again + " " + spoils                                                              # twice as long, up to 64 s
+
+
+def passing_over():
+    yield "1 find=- find=2 find=2 find=3 find=0,1 all find=1"
+    yield "2 find=2 find=3 find=5 find=4,5 find=1,2,3 forget find=0"
+    yield "1 hear=3:1 hear=3:2 forget hear=3:1 hear=2:1 all hear=3:1"                       # two tell the same
+    yield "1 hear=3:1 forget hear=0:2 forget hear=3:2 hear=0:1 hear=2:2"
+    yield "2 hear=0:6 hear=1:5,6 forget hear=0:6 hear=1:6,5 hear=2:6 hear=3:5 all hear=0:4 hear=1:3"
+    yield "10 " + " ".join(f"hear={k}:{k + 1}" for k in range(12)) + " forget hear=0:30 hear=30:0,30"
+    yield "1 enough=- enough=0 enough=0,1 enough=0,1,2,3"
+    yield "10 enough=" + ",".join(map(str, range(19))) + " enough=" + ",".join(map(str, range(20)))
+
+
+def beliefs():
+    yield from (f"clients {events}" for events in trials())
+    yield from (f"voters {events}" for events in passing_over())
+
+
 def all_cases():
     yield from streams()
     yield from letter_lines()
@@ -373,3 +412,4 @@ def all_cases():
     yield from deployments()
     yield from marks()
     yield from windows()
+    yield from beliefs()

@@ -1,7 +1,7 @@
 """The cases of crates/wire_cases: what is wanted of each line. The heads of the program's files have the format."""
 from hashlib import sha256
 
-from . import beginnings, letters, window_files, wires
+from . import beginnings, believing, letters, window_files, wires
 from .frame_lines import bytes_of as parts_of
 from .sizes import Config
 from .tags import big_endian
@@ -200,8 +200,49 @@ def tell_judge(fields):
     return "too few" if verdict is None else " ".join(map(str, verdict))
 
 
+# ---- whom a replica believes
+
+
+def client_event(clients, field):
+    what, _, now = field.partition("@")
+    name, _, whom = what.partition("=")
+    client, _, number = whom.partition(":")
+    client, number, now = int(client or 0), int(number or 0), int(now or 0)
+    happen = {"begin": lambda: clients.begin(now), "lock": lambda: clients.lead_from_lock(now), "end": clients.end,
+              "vouch": lambda: clients.vouch(client), "doubt": lambda: clients.doubt(client, now),
+              "try": lambda: clients.begin_trial(client, number, now), "wait": clients.wait,
+              "serve": lambda: clients.serve(client, number), "show": lambda: clients.show(now)}
+    return happen[name]()
+
+
+def tell_clients(fields):
+    clients = believing.Clients()
+    told_of = [client_event(clients, field) for field in fields]
+    return ", ".join(["clients", *filter(None, told_of)])
+
+
+def numbers(field):
+    return set() if field == "-" else set(map(int, field.split(",")))
+
+
+def tell_voters(fields):
+    config = Config(int(fields[0]), 1)
+    voters, words = believing.Voters(int(fields[0])), ["voters"]
+    for field in fields[1:]:
+        name, _, whom = field.partition("=")
+        if name == "enough":
+            words.append(" true" if len(numbers(whom)) + 1 >= config.quorum else " false")
+            continue
+        teller, _, some = whom.partition(":")
+        happen = {"find": lambda: voters.find(numbers(whom)), "hear": lambda: voters.hear(int(teller), numbers(some)),
+                  "forget": voters.forget, "all": voters.hear_all}
+        happen[name]()
+        words.append("".join(f" {voter}" for voter in sorted(voters.passed)))
+    return ",".join(words)
+
+
 BEGINNINGS = {"keys": tell_keys, "deployment": tell_deployment, "mark": tell_mark, "begin": tell_begin,
-              "window": tell_window, "judge": tell_judge}
+              "window": tell_window, "judge": tell_judge, "clients": tell_clients, "voters": tell_voters}
 
 
 def tell(line):

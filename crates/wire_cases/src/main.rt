@@ -1,4 +1,5 @@
-//! Cases of what goes over wires, and of what a process reads when it begins. Each line of standard input is a case behind the name of its subject:
+//! Cases of what goes over wires, of what a process reads when it begins, and of whom a replica believes. Each line of standard
+//! input is a case behind the name of its subject:
 //!
 //! - `longest`, `put`, `cuts`, `pieces`, `room`: frames on a wire (`streams.rt`).
 //! - `letter`: texts of letters (`letter_texts.rt`).
@@ -6,10 +7,13 @@
 //! - `outbox`: calls of an outbox (`outboxes.rt`).
 //! - `keys`, `deployment`, `mark`, `begin`: key files of holders, deployment files, marks (`state.rt`).
 //! - `window`, `judge`: window files (`windows.rt`).
+//! - `clients`: whose requests a leader lets in (`clients.rt`).
+//! - `voters`: whose votes a replica does without (`voters.rt`).
 //!
 //! A line is printed of each. What is wanted was computed by an independent program, `reference/wire_cases`.
 #![tactic(auto)]
 
+mod clients;
 mod endpoints;
 mod fields;
 mod handshakes;
@@ -17,6 +21,7 @@ mod letter_texts;
 mod outboxes;
 mod state;
 mod streams;
+mod voters;
 mod windows;
 
 use anyhow::{Result, bail};
@@ -33,6 +38,8 @@ fn case_told(alloc: Global, line: &str) -> Result<String> {
         "outbox" => outboxes::case_told(alloc, case),
         "keys" | "deployment" | "mark" | "begin" => state::case_told(alloc, subject, case),
         "window" | "judge" => windows::case_told(alloc, subject, case),
+        "clients" => clients::case_told(alloc, case),
+        "voters" => voters::case_told(alloc, case),
         _ => handshakes::case_told(alloc, subject, case),
     }
 }
