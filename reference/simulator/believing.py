@@ -13,7 +13,7 @@ class Clients:
 
     def __init__(self):
         self.begun = 0                          # how often
-        self.suspects = self.one_by_one = self.others_pass = self.spoiler_is_known = False
+        self.suspects = self.one_by_one = self.others_pass = self.someone_passed = False
         self.passed = set(range(256))           # since it began anew: all, before the first time
         self.vain = Counter()                   # trials that came to nothing
         self.failed, self.doubted = Counter(), Counter()
@@ -77,7 +77,7 @@ class Clients:
     def serve(self, client, number):
         if not self.trial or self.trial[:2] != (client, number):
             return
-        self.spoiler_is_known |= self.trial[3]
+        self.someone_passed |= self.trial[3]
         self.passed.add(client)
         self.vain[client] = 0
         self.failed[client] = max(0, self.failed[client] - 1)
@@ -88,7 +88,7 @@ class Clients:
 
     def suspect_all(self, others_pass):
         self.suspects, self.others_pass = True, others_pass
-        self.trial, self.spoiler_is_known = None, False
+        self.trial, self.someone_passed = None, False
         self.passed.clear()
         self.begun += 1
 
@@ -98,12 +98,12 @@ class Clients:
             return self.suspect_all(False)
         client = self.trial[0]
         self.vain[client] += 1
-        if not self.spoiler_is_known:
+        if not self.someone_passed:
             return self.suspect_all(False)
         self.out_until[client] = now + barred_for(self.failed[client])
         self.failed[client] += 1
         self.pause(now)
-        self.trial, self.spoiler_is_known = None, False
+        self.trial, self.someone_passed = None, False
 
     def lead_from_lock(self, now):
         if self.trial is not None:
