@@ -1,5 +1,7 @@
 """A deployment whose replicas and fronts are processes of this machine. For bin/cluster, tests/apart and bench/serve/apart."""
+import itertools
 import os
+import random
 import re
 import signal
 import socket
@@ -9,6 +11,7 @@ import time
 from crate_list import CRATES, TOP
 
 PROGRAM = os.path.join(CRATES, "mcbft_main", "out", "mcbft_main")
+OWN_PORTS = range(12000, 32000)     # Linux gives connections that go out ports above
 LISTENS = re.compile(r"^listening on (\S+)$", re.M)
 
 
@@ -16,13 +19,19 @@ class NotStarted(Exception):
     """A process that ended, or said nothing, in place of listening."""
 
 
+def is_free(port):
+    """Whether nobody listens on a port of 127.0.0.1."""
+    try:
+        socket.create_server(("127.0.0.1", port)).close()
+    except OSError:
+        return False
+    return True
+
+
 def free_ports(count):
-    """So many ports of 127.0.0.1 that nobody listens on."""
-    held = [socket.create_server(("127.0.0.1", 0)) for _ in range(count)]
-    ports = [it.getsockname()[1] for it in held]
-    for it in held:
-        it.close()
-    return ports
+    """So many ports of 127.0.0.1 that nobody listens on. Connections that go out have none of them."""
+    free = (port for port in random.sample(OWN_PORTS, len(OWN_PORTS)) if is_free(port))
+    return list(itertools.islice(free, count))
 
 
 def shares(clients, fronts):

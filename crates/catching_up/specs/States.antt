@@ -1,5 +1,5 @@
 -- What a replica asked, and what came of it.
-use Rattle.std.specs.Prelude.{ℕ, ◌-◌, ◌*◌, ◌/◌, ◌^◌, ◌<◌, ◌==◌, ◌&&◌, ◌||◌, not, min, nat_le, nat_lt, Bool, false, true}
+use Rattle.std.specs.Prelude.{ℕ, ◌-◌, ◌*◌, ◌/◌, ◌^◌, ◌<◌, ◌==◌, ◌&&◌, ◌||◌, not, max, min, nat_le, nat_lt, Bool, false, true}
 use Rattle.std.specs.Prelude.{if◌then◌else◌, is_some, Option, Some, None}
 use Rattle.std.specs.Option.{option_map_or}
 use Rattle.ids.specs.Sizes.{Sizes, replicas}
@@ -20,6 +20,7 @@ pub record CatchingUp : Type 0 where
   pub from : Option ℕ  -- from which height the answer is that it awaits
   pub is_served : Bool  -- whether the last answer came to its end, and brought something new
   pub vain : ℕ  -- how many questions went out since something new came
+  pub wait : ℕ  -- for how long something new is awaited before the next one is asked
   pub is_away : Bool  -- whether it was far behind when it was looked at last
 
 -- nothing was executed, and nobody asked
@@ -35,6 +36,7 @@ unasked sizes own pace = record {
   from = None;
   is_served = false;
   vain = 0;
+  wait = pace.pause;
   is_away = false;
 }
 
@@ -65,13 +67,9 @@ away s = record s { is_away = true }
 
 -- ---- when a question is due, and to whom
 
--- After so long in which nothing new came the next one is asked: a pause, and as much more for each round of questions
--- that brought nothing, up to the longest.
-abbrev pub wait : CatchingUp → ℕ
-wait s = min (min (s.pace.pause * more (s.vain / (s.replicas - 1))) (2 ^ 64 - 1)) s.pace.most_pause
-
+-- nothing new came for as long as it is awaited
 abbrev pub is_silent : (now : ℕ) → CatchingUp → Bool
-is_silent now s = nat_le (wait s) (now - s.since)
+is_silent now s = nat_le s.wait (now - s.since)
 
 -- the peer's turn is over
 abbrev pub is_over : (now : ℕ) → CatchingUp → Bool
@@ -99,6 +97,18 @@ abbrev pub due_question : (now : ℕ) → CatchingUp → Option Question
 due_question now s =
     if is_due now s then Some (record { to = whom now s; from = next_height s.height; bytes = bytes_of s }) else None
 
+-- with it as many went out, or twice as many and so on, as there are others, and brought nothing
+abbrev pub ends_round : CatchingUp → Bool
+ends_round s = nat_lt (s.vain / (s.replicas - 1)) (more s.vain / (s.replicas - 1))
+
+-- twice as long, up to the longest
+abbrev pub longer : CatchingUp → ℕ
+longer s = min (min (s.wait * 2) (2 ^ 64 - 1)) s.pace.most_pause
+
+-- half as long, down to the shortest
+abbrev pub shorter : CatchingUp → ℕ
+shorter s = max (s.wait / 2) s.pace.pause
+
 -- it went out
 abbrev pub asked : (now : ℕ) → CatchingUp → CatchingUp
 asked now s = record s {
@@ -108,6 +118,7 @@ asked now s = record s {
   from = Some (next_height s.height);
   is_served = false;
   vain = more s.vain;
+  wait = if ends_round s then longer s else s.wait;
 }
 
 -- ---- what is done at a look
@@ -130,8 +141,11 @@ is_awaited question s = (s.peer == question.to) && option_map_or (λ from. from 
 
 -- the answer came to its end: it served, where the height that it was asked from was executed by then
 abbrev pub after_answer : Question → CatchingUp → CatchingUp
-after_answer question s =
-    if is_awaited question s then record s { from = None; is_served = nat_le question.from s.height } else s
+after_answer question s = if is_awaited question s then record s {
+  from = None;
+  is_served = nat_le question.from s.height;
+  wait = if nat_le question.from s.height then shorter s else s.wait;
+} else s
 
 -- ---- what always holds
 

@@ -2,7 +2,7 @@ ghost use Rattle.std.specs.Prelude.{◌≡◌, ◌-◌, ◌<◌, ◌≢◌, nat_
 ghost use Rattle.ids.specs.Sizes.{replicas};
 ghost use Rattle.catching_up.specs.States.{after_answer, asked, asked_by_look, due_question, is_awaited, is_behind, is_far};
 ghost use Rattle.catching_up.specs.States.{is_due, is_over, is_silent, looked, noted, resting, stays, unasked};
-ghost use Rattle.catching_up.specs.States.{bytes_of, next_height, wait, whom};
+ghost use Rattle.catching_up.specs.States.{bytes_of, ends_round, longer, next_height, shorter, whom};
 
 use crate::pace::Pace;
 use crate::question::Question;
@@ -34,6 +34,8 @@ pub struct CatchingUp {
     is_served: bool,
     /// How many questions went out since something new came.
     vain: u64,
+    /// For how long something new is awaited before the next one is asked.
+    wait: u64,
     /// Whether it was far behind when it was looked at last.
     is_away: bool,
 }
@@ -54,6 +56,7 @@ impl Model for CatchingUp {
       from = s.from;
       is_served = s.is_served;
       vain = s.vain;
+      wait = s.wait;
       is_away = s.is_away;
     } };
 
@@ -68,6 +71,7 @@ impl Model for CatchingUp {
       from = s.from;
       is_served = s.is_served;
       vain = s.vain;
+      wait = s.wait;
       is_away = s.is_away;
     }) };
 
@@ -82,6 +86,7 @@ impl Model for CatchingUp {
       from = s.from;
       is_served = s.is_served;
       vain = s.vain;
+      wait = s.wait;
       is_away = s.is_away;
     } };
 }
@@ -110,6 +115,7 @@ impl CatchingUp {
             from: None,
             is_served: false,
             vain: 0,
+            wait: pace.pause,
             is_away: false,
         }
     }
@@ -161,23 +167,11 @@ impl CatchingUp {
         self.is_away
     }
 
-    /// After how long in which nothing new came the next one is asked.
-    fn wait(&self) -> u64
-        ensures { result ≡ wait self.now }
-    {
-        let rounds = self.vain / u64::from(self.replicas - 1);
-        let pauses = rounds.saturating_add(1);
-        self.pace
-            .pause
-            .saturating_mul(pauses)
-            .min(self.pace.most_pause)
-    }
-
-    /// Whether nothing new came for so long.
+    /// Whether nothing new came for as long as it is awaited.
     fn is_silent(&self, now: u64) -> bool
         ensures { result ≡ is_silent now self.now }
     {
-        now.saturating_sub(self.since) >= self.wait()
+        now.saturating_sub(self.since) >= self.wait
     }
 
     /// Whether the peer's turn is over.
@@ -237,6 +231,28 @@ impl CatchingUp {
         })
     }
 
+    /// Whether with the next question as many went out as there are others, or twice as many and so on, and brought nothing.
+    fn ends_round(&self) -> bool
+        ensures { result ≡ ends_round self.now }
+    {
+        let others = u64::from(self.replicas - 1);
+        self.vain / others < self.vain.saturating_add(1) / others
+    }
+
+    /// Twice as long as something new was awaited: answers may be on their way that were given up.
+    fn longer(&self) -> u64
+        ensures { result ≡ longer self.now }
+    {
+        self.wait.saturating_mul(2).min(self.pace.most_pause)
+    }
+
+    /// Half as long.
+    fn shorter(&self) -> u64
+        ensures { result ≡ shorter self.now }
+    {
+        (self.wait / 2).max(self.pace.pause)
+    }
+
     /// The question that is due goes out.
     fn ask(&mut self, now: u64, question: &Question)
         requires to { question.now.to ≡ whom now self.old }
@@ -245,6 +261,9 @@ impl CatchingUp {
     {
         if !self.stays(now) {
             self.began = now;
+        }
+        if self.ends_round() {
+            self.wait = self.longer();
         }
         self.peer = question.to;
         self.since = now;
@@ -286,6 +305,9 @@ impl CatchingUp {
         if self.is_awaited(question) {
             self.from = None;
             self.is_served = self.height.0 >= question.from.0;
+            if self.is_served {
+                self.wait = self.shorter();
+            }
         }
     }
 }

@@ -5,10 +5,11 @@ pub struct Pace {
     pub least: u64,
     /// How near it has to come before it asks no more: so many heights.
     pub near: u64,
-    /// After how long in which nothing was executed the next one is asked, where one at least of the others asked in the last
-    /// round brought something new; as much more for each round in which none did.
+    /// After how long in which nothing was executed the next one is asked, at first and at least. Twice as long behind each
+    /// round in which none of the others brought something new, half as long behind each answer that did: where answers
+    /// take long, each would be given up before it came.
     pub pause: u64,
-    /// That is no longer than this.
+    /// It is no longer than this.
     pub most_pause: u64,
     /// For how long one is asked again and again, at most, before it's the next one's turn.
     pub turn: u64,

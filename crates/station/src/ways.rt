@@ -107,7 +107,7 @@ fn tell<R: Log>(rt: &R, station: &Station<'_>, before: &Seen, now: &Seen) {
     match now.way {
         Way::AtOne => info!(rt; "replica {number} goes on again"),
         Way::InVain =>
-            warn!(rt; "replica {number} is stuck: what others recorded isn't right for it"),
+            warn!(rt; "replica {number} is stuck: what others recorded doesn't bring it on"),
         Way::Stuck =>
             warn!(rt; "replica {number} is stuck: the others have forgotten blocks that it needs"),
         Way::CatchesUp => {}
