@@ -21,6 +21,7 @@ pub record CatchingUp : Type 0 where
   pub is_served : Bool  -- whether the last answer came to its end, and brought something new
   pub vain : ℕ  -- how many questions went out since something new came
   pub wait : ℕ  -- for how long something new is awaited before the next one is asked
+  pub bytes : ℕ  -- how many are asked for at once
   pub is_away : Bool  -- whether it was far behind when it was looked at last
 
 -- nothing was executed, and nobody asked
@@ -37,6 +38,7 @@ unasked sizes own pace = record {
   is_served = false;
   vain = 0;
   wait = pace.pause;
+  bytes = pace.bytes;
   is_away = false;
 }
 
@@ -71,9 +73,9 @@ away s = record s { is_away = true }
 abbrev pub is_silent : (now : ℕ) → CatchingUp → Bool
 is_silent now s = nat_le s.wait (now - s.since)
 
--- the peer's turn is over
+-- the peer's turn is over: else an answer that takes longer than a turn would never come to its end
 abbrev pub is_over : (now : ℕ) → CatchingUp → Bool
-is_over now s = nat_le s.pace.turn (now - s.began)
+is_over now s = nat_le (max s.pace.turn s.wait) (now - s.began)
 
 -- A question is due at once behind an answer that brought something new; else when nothing new came for long, or in the
 -- midst of an answer where the peer's turn is over.
@@ -88,26 +90,21 @@ stays now s = s.is_served && not (is_over now s)
 abbrev pub whom : (now : ℕ) → CatchingUp → ℕ
 whom now s = if stays now s then s.peer else next_peer s.replicas s.own s.peer
 
--- It asks for so many bytes: as many more for each question in a row that brought nothing new, up to the most.
-abbrev pub bytes_of : CatchingUp → ℕ
-bytes_of s = min (min (s.pace.bytes * more s.vain) (2 ^ 64 - 1)) s.pace.most_bytes
-
 -- the question that is due
 abbrev pub due_question : (now : ℕ) → CatchingUp → Option Question
 due_question now s =
-    if is_due now s then Some (record { to = whom now s; from = next_height s.height; bytes = bytes_of s }) else None
+    if is_due now s then Some (record { to = whom now s; from = next_height s.height; bytes = s.bytes }) else None
 
 -- with it as many went out, or twice as many and so on, as there are others, and brought nothing
 abbrev pub ends_round : CatchingUp → Bool
 ends_round s = nat_lt (s.vain / (s.replicas - 1)) (more s.vain / (s.replicas - 1))
 
--- twice as long, up to the longest
-abbrev pub longer : CatchingUp → ℕ
-longer s = min (min (s.wait * 2) (2 ^ 64 - 1)) s.pace.most_pause
+-- twice as much, up to the most; half as much, down to the least
+abbrev pub doubled : (most : ℕ) → ℕ → ℕ
+doubled most n = min (min (n * 2) (2 ^ 64 - 1)) most
 
--- half as long, down to the shortest
-abbrev pub shorter : CatchingUp → ℕ
-shorter s = max (s.wait / 2) s.pace.pause
+abbrev pub halved : (least : ℕ) → ℕ → ℕ
+halved least n = max (n / 2) least
 
 -- it went out
 abbrev pub asked : (now : ℕ) → CatchingUp → CatchingUp
@@ -118,7 +115,7 @@ asked now s = record s {
   from = Some (next_height s.height);
   is_served = false;
   vain = more s.vain;
-  wait = if ends_round s then longer s else s.wait;
+  wait = if ends_round s then doubled s.pace.most_pause s.wait else s.wait;
 }
 
 -- ---- what is done at a look
@@ -139,13 +136,25 @@ looked now height foremost s =
 abbrev pub is_awaited : Question → CatchingUp → Bool
 is_awaited question s = (s.peer == question.to) && option_map_or (λ from. from == question.from) s.from false
 
--- the answer came to its end: it served, where the height that it was asked from was executed by then
-abbrev pub after_answer : Question → CatchingUp → CatchingUp
-after_answer question s = if is_awaited question s then record s {
+-- the answer came to its end, and served
+abbrev pub served : CatchingUp → CatchingUp
+served s = record s {
   from = None;
-  is_served = nat_le question.from s.height;
-  wait = if nat_le question.from s.height then shorter s else s.wait;
-} else s
+  is_served = true;
+  wait = halved s.pace.pause s.wait;
+  bytes = halved s.pace.bytes s.bytes;
+}
+
+-- it came to its end in vain: it may have been too short
+abbrev pub unserved : CatchingUp → CatchingUp
+unserved s = record s { from = None; is_served = false; bytes = doubled s.pace.most_bytes s.bytes }
+
+-- it served, where the height that it was asked from was executed by then
+abbrev pub after_answer : Question → CatchingUp → CatchingUp
+after_answer question s =
+    if not (is_awaited question s) then s
+    else if nat_le question.from s.height then served s
+    else unserved s
 
 -- ---- what always holds
 

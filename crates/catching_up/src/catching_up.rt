@@ -2,7 +2,7 @@ ghost use Rattle.std.specs.Prelude.{◌≡◌, ◌-◌, ◌<◌, ◌≢◌, nat_
 ghost use Rattle.ids.specs.Sizes.{replicas};
 ghost use Rattle.catching_up.specs.States.{after_answer, asked, asked_by_look, due_question, is_awaited, is_behind, is_far};
 ghost use Rattle.catching_up.specs.States.{is_due, is_over, is_silent, looked, noted, resting, stays, unasked};
-ghost use Rattle.catching_up.specs.States.{bytes_of, ends_round, longer, next_height, shorter, whom};
+ghost use Rattle.catching_up.specs.States.{doubled, ends_round, halved, next_height, served, unserved, whom};
 
 use crate::pace::Pace;
 use crate::question::Question;
@@ -36,6 +36,8 @@ pub struct CatchingUp {
     vain: u64,
     /// For how long something new is awaited before the next one is asked.
     wait: u64,
+    /// How many bytes are asked for at once.
+    bytes: u64,
     /// Whether it was far behind when it was looked at last.
     is_away: bool,
 }
@@ -57,6 +59,7 @@ impl Model for CatchingUp {
       is_served = s.is_served;
       vain = s.vain;
       wait = s.wait;
+      bytes = s.bytes;
       is_away = s.is_away;
     } };
 
@@ -72,6 +75,7 @@ impl Model for CatchingUp {
       is_served = s.is_served;
       vain = s.vain;
       wait = s.wait;
+      bytes = s.bytes;
       is_away = s.is_away;
     }) };
 
@@ -87,8 +91,23 @@ impl Model for CatchingUp {
       is_served = s.is_served;
       vain = s.vain;
       wait = s.wait;
+      bytes = s.bytes;
       is_away = s.is_away;
     } };
+}
+
+/// Twice as much, up to the most.
+fn doubled(most: u64, n: u64) -> u64
+    ensures { result ≡ doubled most n }
+{
+    n.saturating_mul(2).min(most)
+}
+
+/// Half as much, down to the least.
+fn halved(least: u64, n: u64) -> u64
+    ensures { result ≡ halved least n }
+{
+    (n / 2).max(least)
 }
 
 /// The height behind one.
@@ -116,6 +135,7 @@ impl CatchingUp {
             is_served: false,
             vain: 0,
             wait: pace.pause,
+            bytes: pace.bytes,
             is_away: false,
         }
     }
@@ -174,11 +194,12 @@ impl CatchingUp {
         now.saturating_sub(self.since) >= self.wait
     }
 
-    /// Whether the peer's turn is over.
+    /// Whether the peer's turn is over. It lasts as long as something new is awaited at least: else an answer that takes longer
+    /// than a turn would never come to its end.
     fn is_over(&self, now: u64) -> bool
         ensures { result ≡ is_over now self.now }
     {
-        now.saturating_sub(self.began) >= self.pace.turn
+        now.saturating_sub(self.began) >= self.pace.turn.max(self.wait)
     }
 
     /// Whether a question is due.
@@ -206,17 +227,6 @@ impl CatchingUp {
         }
     }
 
-    /// How many bytes the next question asks for.
-    fn bytes(&self) -> u64
-        ensures { result ≡ bytes_of self.now }
-    {
-        let times = self.vain.saturating_add(1);
-        self.pace
-            .bytes
-            .saturating_mul(times)
-            .min(self.pace.most_bytes)
-    }
-
     /// The question that is due, if one is.
     fn due_question(&self, now: u64) -> Option<Question>
         ensures { result ≡ due_question now self.now }
@@ -227,7 +237,7 @@ impl CatchingUp {
         Some(Question {
             to: self.whom(now),
             from: next_height(self.height),
-            bytes: self.bytes(),
+            bytes: self.bytes,
         })
     }
 
@@ -237,20 +247,6 @@ impl CatchingUp {
     {
         let others = u64::from(self.replicas - 1);
         self.vain / others < self.vain.saturating_add(1) / others
-    }
-
-    /// Twice as long as something new was awaited: answers may be on their way that were given up.
-    fn longer(&self) -> u64
-        ensures { result ≡ longer self.now }
-    {
-        self.wait.saturating_mul(2).min(self.pace.most_pause)
-    }
-
-    /// Half as long.
-    fn shorter(&self) -> u64
-        ensures { result ≡ shorter self.now }
-    {
-        (self.wait / 2).max(self.pace.pause)
     }
 
     /// The question that is due goes out.
@@ -263,7 +259,7 @@ impl CatchingUp {
             self.began = now;
         }
         if self.ends_round() {
-            self.wait = self.longer();
+            self.wait = doubled(self.pace.most_pause, self.wait);
         }
         self.peer = question.to;
         self.since = now;
@@ -296,18 +292,38 @@ impl CatchingUp {
         self.peer == question.to && self.from == Some(question.from)
     }
 
+    /// The answer that it awaits came to its end, and brought something new.
+    fn serve(&mut self)
+        ensures { self.new ≡ served self.old }
+    {
+        self.from = None;
+        self.is_served = true;
+        self.wait = halved(self.pace.pause, self.wait);
+        self.bytes = halved(self.pace.bytes, self.bytes);
+    }
+
+    /// It came to its end, and brought nothing new: it may have been too short.
+    fn fail(&mut self)
+        ensures { self.new ≡ unserved self.old }
+    {
+        self.from = None;
+        self.is_served = false;
+        self.bytes = doubled(self.pace.most_bytes, self.bytes);
+    }
+
     /// The answer to a question came to its end: all of it was taken. Any other end than the one that is awaited is passed
     /// over.
     pub fn answered(&mut self, now: u64, height: Height, question: &Question)
         ensures { self.new ≡ after_answer question.now (noted now height self.old) }
     {
         self.note(now, height);
-        if self.is_awaited(question) {
-            self.from = None;
-            self.is_served = self.height.0 >= question.from.0;
-            if self.is_served {
-                self.wait = self.shorter();
-            }
+        if !self.is_awaited(question) {
+            return;
+        }
+        if self.height.0 >= question.from.0 {
+            self.serve();
+        } else {
+            self.fail();
         }
     }
 }

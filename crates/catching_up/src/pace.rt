@@ -11,11 +11,13 @@ pub struct Pace {
     pub pause: u64,
     /// It is no longer than this.
     pub most_pause: u64,
-    /// For how long one is asked again and again, at most, before it's the next one's turn.
+    /// For how long one is asked again and again, at most, before it's the next one's turn; longer where something new is
+    /// awaited for longer.
     pub turn: u64,
-    /// How many bytes are asked for at once; as many more for each question in a row that brought nothing new: of long frames
-    /// an answer has few heights, and only behind some of them something is executed.
+    /// How many bytes are asked for at once, at first and at least. Twice as many behind each answer that brought nothing
+    /// new, half as many behind each that did: of long frames an answer has few heights, and only behind some of them
+    /// something is executed.
     pub bytes: u64,
-    /// That is no more than this.
+    /// It is no more than this.
     pub most_bytes: u64,
 }

@@ -21,7 +21,7 @@ pub const MOST_CATCH_UP_PAUSE_MILLIS: u64 = 5000;
 /// costs more.
 pub const CATCH_UP_TURN_MILLIS: u64 = 1000;
 
-/// Bytes that are asked for at once; as many more behind each question in vain. Fewer: more questions. More: a replica takes
+/// Bytes that are asked for at once, at least: twice as many behind each answer in vain. Fewer: more questions. More: a replica takes
 /// nothing else for longer.
 pub const CATCH_UP_BYTES: u64 = 1_048_576;
 
