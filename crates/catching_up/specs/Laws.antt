@@ -1,6 +1,6 @@
 -- What the turns and the numbers that were told are for.
-use Rattle.std.specs.Prelude.{ℕ, ◌≡◌, ◌≢◌, ◌+◌, ◌<◌, ◌≤◌, Bool, false, List, [], ◌∷◌, Any, Contains, count_by, length, nat_le}
-use Rattle.catching_up.specs.States.{CatchingUp, IsSound, asked, stays, whom}
+use Rattle.std.specs.Prelude.{ℕ, ◌≡◌, ◌≢◌, ◌+◌, ◌-◌, ◌<◌, ◌≤◌, Bool, false, true, List, [], ◌∷◌, Any, Contains, count_by, length, nat_le}
+use Rattle.catching_up.specs.States.{CatchingUp, IsSound, asked, is_due, stays, whom}
 
 -- the same replica, of as many, and the same one was asked last
 pub record IsLike (old new : CatchingUp) : Type 0 where
@@ -18,6 +18,11 @@ AskInARow old (peer ∷ peers) = (s : CatchingUp) × (now : ℕ) × IsLike old s
 abbrev pub EachIsAsked : Type 0
 EachIsAsked = (s : CatchingUp) (peers : List ℕ) → IsSound s → AskInARow s peers → s.replicas ≤ length peers + 1
     → (peer : ℕ) → peer < s.replicas → peer ≢ s.own → Contains peers peer
+
+-- Where nothing comes, the next question isn't due before the last one was out for as long as it says that something new is
+-- awaited, however long a turn is.
+abbrev pub EachIsAwaited : Type 0
+EachIsAwaited = (s : CatchingUp) (now later : ℕ) → is_due later (asked now s) ≡ true → (asked now s).wait ≤ later - now
 
 -- who told a height, and whether it lies
 pub record Teller : Type 0 where

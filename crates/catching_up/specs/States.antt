@@ -17,6 +17,7 @@ pub record CatchingUp : Type 0 where
   pub peer : ℕ  -- who was asked last; itself before the first question
   pub since : ℕ  -- when something new came last, or the last question went out
   pub began : ℕ  -- when the peer's turn began
+  pub asked : ℕ  -- when the last question went out
   pub from : Option ℕ  -- from which height the answer is that it awaits
   pub is_served : Bool  -- whether the last answer came to its end, and brought something new
   pub vain : ℕ  -- how many questions went out since something new came
@@ -34,6 +35,7 @@ unasked sizes own pace = record {
   peer = own;
   since = 0;
   began = 0;
+  asked = 0;
   from = None;
   is_served = false;
   vain = 0;
@@ -73,14 +75,19 @@ away s = record s { is_away = true }
 abbrev pub is_silent : (now : ℕ) → CatchingUp → Bool
 is_silent now s = nat_le s.wait (now - s.since)
 
--- the peer's turn is over: else an answer that takes longer than a turn would never come to its end
+-- the peer's turn is over
 abbrev pub is_over : (now : ℕ) → CatchingUp → Bool
-is_over now s = nat_le (max s.pace.turn s.wait) (now - s.began)
+is_over now s = nat_le s.pace.turn (now - s.began)
 
--- A question is due at once behind an answer that brought something new; else when nothing new came for long, or in the
--- midst of an answer where the peer's turn is over.
+-- Its answer is in the midst, its turn is over, and its question was out for as long as something new is awaited: else an
+-- answer that takes longer than a turn would never come to its end.
+abbrev pub is_late : (now : ℕ) → CatchingUp → Bool
+is_late now s = is_some s.from && is_over now s && nat_le s.wait (now - s.asked)
+
+-- A question is due at once behind an answer that brought something new; else when nothing new came for long, or the answer
+-- is late.
 abbrev pub is_due : (now : ℕ) → CatchingUp → Bool
-is_due now s = s.is_served || is_silent now s || (is_some s.from && is_over now s)
+is_due now s = s.is_served || is_silent now s || is_late now s
 
 -- the same peer is asked again: its last answer brought something new, and its turn isn't over
 abbrev pub stays : (now : ℕ) → CatchingUp → Bool
@@ -112,6 +119,7 @@ asked now s = record s {
   peer = whom now s;
   since = now;
   began = if stays now s then s.began else now;
+  asked = now;
   from = Some (next_height s.height);
   is_served = false;
   vain = more s.vain;

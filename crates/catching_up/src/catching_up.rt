@@ -1,7 +1,7 @@
 ghost use Rattle.std.specs.Prelude.{◌≡◌, ◌-◌, ◌<◌, ◌≢◌, nat_lt};
 ghost use Rattle.ids.specs.Sizes.{replicas};
 ghost use Rattle.catching_up.specs.States.{after_answer, asked, asked_by_look, due_question, is_awaited, is_behind, is_far};
-ghost use Rattle.catching_up.specs.States.{is_due, is_over, is_silent, looked, noted, resting, stays, unasked};
+ghost use Rattle.catching_up.specs.States.{is_due, is_late, is_over, is_silent, looked, noted, resting, stays, unasked};
 ghost use Rattle.catching_up.specs.States.{doubled, ends_round, halved, next_height, served, unserved, whom};
 
 use crate::pace::Pace;
@@ -28,6 +28,8 @@ pub struct CatchingUp {
     since: u64,
     /// When the peer's turn began.
     began: u64,
+    /// When the last question went out.
+    asked: u64,
     /// From which height the answer is that it awaits.
     from: Option<Height>,
     /// Whether the peer's last answer came to its end, and brought something new.
@@ -55,6 +57,7 @@ impl Model for CatchingUp {
       peer = s.peer;
       since = s.since;
       began = s.began;
+      asked = s.asked;
       from = s.from;
       is_served = s.is_served;
       vain = s.vain;
@@ -71,6 +74,7 @@ impl Model for CatchingUp {
       peer = s.peer;
       since = s.since;
       began = s.began;
+      asked = s.asked;
       from = s.from;
       is_served = s.is_served;
       vain = s.vain;
@@ -87,6 +91,7 @@ impl Model for CatchingUp {
       peer = s.peer;
       since = s.since;
       began = s.began;
+      asked = s.asked;
       from = s.from;
       is_served = s.is_served;
       vain = s.vain;
@@ -131,6 +136,7 @@ impl CatchingUp {
             peer: own,
             since: 0,
             began: 0,
+            asked: 0,
             from: None,
             is_served: false,
             vain: 0,
@@ -194,19 +200,27 @@ impl CatchingUp {
         now.saturating_sub(self.since) >= self.wait
     }
 
-    /// Whether the peer's turn is over. It lasts as long as something new is awaited at least: else an answer that takes longer
-    /// than a turn would never come to its end.
+    /// Whether the peer's turn is over.
     fn is_over(&self, now: u64) -> bool
         ensures { result ≡ is_over now self.now }
     {
-        now.saturating_sub(self.began) >= self.pace.turn.max(self.wait)
+        now.saturating_sub(self.began) >= self.pace.turn
+    }
+
+    /// Whether the peer's answer is in the midst, its turn is over, and its question was out for as long as something new is
+    /// awaited: else an answer that takes longer than a turn would never come to its end.
+    fn is_late(&self, now: u64) -> bool
+        ensures { result ≡ is_late now self.now }
+    {
+        let was_awaited = now.saturating_sub(self.asked) >= self.wait;
+        self.from.is_some() && self.is_over(now) && was_awaited
     }
 
     /// Whether a question is due.
     fn is_due(&self, now: u64) -> bool
         ensures { result ≡ is_due now self.now }
     {
-        self.is_served || self.is_silent(now) || (self.from.is_some() && self.is_over(now))
+        self.is_served || self.is_silent(now) || self.is_late(now)
     }
 
     /// Whether the same peer is asked again.
@@ -263,6 +277,7 @@ impl CatchingUp {
         }
         self.peer = question.to;
         self.since = now;
+        self.asked = now;
         self.from = Some(question.from);
         self.is_served = false;
         self.vain = self.vain.saturating_add(1);

@@ -13,7 +13,7 @@ mod ring;
 mod told;
 
 pub use catching_up::CatchingUp;
-pub use laws::{a_correct_one_told, each_is_asked};
+pub use laws::{a_correct_one_told, each_is_asked, each_is_awaited};
 pub use pace::Pace;
 pub use question::Question;
 pub use told::{foremost, is_beyond};

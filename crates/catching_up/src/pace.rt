@@ -11,8 +11,8 @@ pub struct Pace {
     pub pause: u64,
     /// It is no longer than this.
     pub most_pause: u64,
-    /// For how long one is asked again and again, at most, before it's the next one's turn; longer where something new is
-    /// awaited for longer.
+    /// For how long one is asked again and again, at most, before it's the next one's turn. The last question of a turn is
+    /// awaited as any other.
     pub turn: u64,
     /// How many bytes are asked for at once, at first and at least. Twice as many behind each answer that brought nothing
     /// new, half as many behind each that did: of long frames an answer has few heights, and only behind some of them
