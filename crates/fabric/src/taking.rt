@@ -271,14 +271,14 @@ impl<'a, G: Gate, O: Outgoing + Questioned + Recording> Worker<'a, G, O> {
     /// Of each block's votes all but a quorum are such. In trouble a vote for a block below the newest is lost, too, and at
     /// any time one of a replica that is passed over: it may be right for this one alone.
     fn is_late<R: Wait>(&self, rt: &R, bytes: &[u8]) -> bool {
-        if self.blocks.is_empty() {
+        if self.room.proposed_nothing() {
             return false;
         }
         match read(&self.keyring.config(), bytes) {
             Ok(Frame::Vote(vote)) => {
                 let block = Digest(*vote.digest());
-                self.blocks.is_certified(&block)
-                    || (self.out.in_trouble() && self.blocks.is_below(&block))
+                self.room.is_certified(&block)
+                    || (self.out.in_trouble() && self.room.is_below(&block))
                     || self.out.passes_over(rt, vote.vote().voter())
             }
             _ => false,

@@ -135,7 +135,7 @@ impl<'a, G: Gate, O: Outgoing + Questioned + Recording> Worker<'a, G, O> {
     )
         ensures { HasGrown share.old share.new }
     {
-        let Some(block) = base.lock.or(self.blocks.certified()) else {
+        let Some(block) = base.lock.or(self.room.certified()) else {
             return;
         };
         let now = self.out.millis(rt);

@@ -1,5 +1,6 @@
 //! Frames that wait for a block.
 
+use crate::own_blocks::OwnBlocks;
 use crate::queue::{Question, Queue};
 use crate::requests::{Again, Entry, Requests};
 use crate::unfounded::{Unfounded, UnfoundedList};
@@ -123,6 +124,8 @@ pub struct WaitingRoom {
     done: AtomicU64,
     /// How many frames wait.
     waiting: AtomicU64,
+    has_proposed: AtomicBool,
+    blocks: Mutex<OwnBlocks>,
     unfounded: Mutex<UnfoundedList>,
     /// How many proposals lack grounds.
     lacking_grounds: AtomicU64,
@@ -147,6 +150,8 @@ impl WaitingRoom {
             busy: AtomicU64::new(0),
             done: AtomicU64::new(0),
             waiting: AtomicU64::new(0),
+            has_proposed: AtomicBool::new(false),
+            blocks: Mutex::new(OwnBlocks::new(alloc)),
             unfounded: Mutex::new(UnfoundedList::new(alloc)),
             lacking_grounds: AtomicU64::new(0),
             news: AtomicU64::new(0),
@@ -156,6 +161,35 @@ impl WaitingRoom {
             is_wary: AtomicBool::new(false),
             questions: AtomicU64::new(0),
         }
+    }
+
+    pub(crate) fn proposed_nothing(&self) -> bool {
+        !self.has_proposed.load(SeqCst)
+    }
+
+    pub(crate) fn propose(&self, certified: Digest, block: Option<Digest>) {
+        self.has_proposed.store(true, SeqCst);
+        if let Some(mut blocks) = self.blocks.try_lock() {
+            blocks.propose(certified, block);
+        }
+    }
+
+    pub(crate) fn is_certified(&self, block: &Digest) -> bool {
+        match self.blocks.try_lock() {
+            Some(blocks) => blocks.is_certified(block),
+            None => false,
+        }
+    }
+
+    pub(crate) fn is_below(&self, block: &Digest) -> bool {
+        match self.blocks.try_lock() {
+            Some(blocks) => blocks.is_below(block),
+            None => false,
+        }
+    }
+
+    pub(crate) fn certified(&self) -> Option<Digest> {
+        self.blocks.try_lock()?.certified()
     }
 
     /// Whether several workers share it.

@@ -5,7 +5,6 @@ ghost use Rattle.fabric.specs.Shares.{HasGrown};
 use crate::inbox::Inbox;
 use crate::links::Links;
 use crate::own::OwnFrames;
-use crate::own_blocks::OwnBlocks;
 use crate::parcel::Parcel;
 use crate::questioned::Questioned;
 use crate::queue::Question;
@@ -35,8 +34,7 @@ pub struct Worker<'a, G, O = Links> {
     inbox: &'a Inbox,
     pub(crate) out: &'a O,
     pub(crate) room: &'a WaitingRoom,
-    /// What it proposed.
-    pub(crate) blocks: OwnBlocks,
+    held: usize,
     /// What was sent to the replica itself, and isn't taken yet.
     pub(crate) own: OwnFrames,
 }
@@ -129,7 +127,7 @@ impl<'a, G: Gate, O: Outgoing + Questioned + Recording> Worker<'a, G, O> {
             inbox,
             out,
             room,
-            blocks: OwnBlocks::new(alloc),
+            held: 10_000,
             own: OwnFrames::new(alloc),
         }
     }
@@ -190,9 +188,9 @@ impl<'a, G: Gate, O: Outgoing + Questioned + Recording> Worker<'a, G, O> {
         self.own.link_had_its_turn();
         if self.own.is_empty() {
             self.room.hold_back(rt);
-            return Some(self.inbox.recv(rt));
+            return Some(self.inbox.recv(rt, &mut self.held));
         }
-        self.inbox.try_recv(rt)
+        self.inbox.try_recv(rt, &mut self.held)
     }
 
     /// The next parcel: what the replica sent to itself goes before what comes over its link. But behind each such frame
@@ -206,7 +204,7 @@ impl<'a, G: Gate, O: Outgoing + Questioned + Recording> Worker<'a, G, O> {
         }
         match self.own.take() {
             Some(bytes) => Parcel::Frame { number: OWN, bytes },
-            None => self.inbox.recv(rt),
+            None => self.inbox.recv(rt, &mut self.held),
         }
     }
 
@@ -284,7 +282,7 @@ impl<'a, G: Gate, O: Outgoing + Questioned + Recording> Worker<'a, G, O> {
             } else {
                 None
             };
-            self.blocks
+            self.room
                 .propose(Digest(*view.certificate().digest()), block);
         }
     }

@@ -96,6 +96,20 @@ impl<T: Drop> FairQueue<T> {
         Some(value)
     }
 
+    pub fn lease(&mut self) -> Option<(usize, T)> {
+        let number = self.next()?;
+        let value = self.rows[number].take()?;
+        self.rows[number].hold(true);
+        self.turn = row_behind(self.rows.len(), number);
+        Some((number, value))
+    }
+
+    pub fn give_back(&mut self, number: usize) {
+        if number < self.rows.len() {
+            self.rows[number].hold(false);
+        }
+    }
+
     /// Whether something may be taken.
     pub fn is_ready(&self) -> bool
         ensures ready { OnTrue result ((number : ℕ) × (place : ℕ) × IsNext self.now number place) }

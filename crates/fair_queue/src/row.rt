@@ -20,6 +20,7 @@ pub(crate) struct Row<T> {
     size: usize,
     count_left: usize,
     size_left: usize,
+    is_held: bool,
 }
 
 impl<T> Model for Row<T> {
@@ -48,6 +49,7 @@ impl<T: Drop> Row<T> {
             size: 0,
             count_left: allowed.count,
             size_left: allowed.size,
+            is_held: false,
         }
     }
 
@@ -55,7 +57,11 @@ impl<T: Drop> Row<T> {
     pub(crate) fn is_ready(&self) -> bool
         ensures { result ≡ is_ready self.now }
     {
-        !self.items.is_empty() && self.count_left > 0 && self.size_left > 0
+        !self.is_held && !self.items.is_empty() && self.count_left > 0 && self.size_left > 0
+    }
+
+    pub(crate) fn hold(&mut self, is_held: bool) {
+        self.is_held = is_held;
     }
 
     /// How much size waits.
