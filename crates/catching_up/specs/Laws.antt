@@ -19,8 +19,8 @@ abbrev pub EachIsAsked : Type 0
 EachIsAsked = (s : CatchingUp) (peers : List ℕ) → IsSound s → AskInARow s peers → s.replicas ≤ length peers + 1
     → (peer : ℕ) → peer < s.replicas → peer ≢ s.own → Contains peers peer
 
--- Where nothing comes, the next question isn't due before the last one was out for as long as it says that something new is
--- awaited, however long a turn is.
+-- Where nothing comes, the next question isn't due before the last one was out for as long as an answer is awaited, however
+-- long a turn is.
 abbrev pub EachIsAwaited : Type 0
 EachIsAwaited = (s : CatchingUp) (now later : ℕ) → is_due later (asked now s) ≡ true → (asked now s).wait ≤ later - now
 

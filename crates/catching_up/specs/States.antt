@@ -21,7 +21,7 @@ pub record CatchingUp : Type 0 where
   pub from : Option ℕ  -- from which height the answer is that it awaits
   pub is_served : Bool  -- whether the last answer came to its end, and brought something new
   pub vain : ℕ  -- how many questions went out since something new came
-  pub wait : ℕ  -- for how long something new is awaited before the next one is asked
+  pub wait : ℕ  -- for how long an answer is awaited
   pub bytes : ℕ  -- how many are asked for at once
   pub is_away : Bool  -- whether it was far behind when it was looked at last
 
@@ -71,16 +71,20 @@ away s = record s { is_away = true }
 
 -- ---- when a question is due, and to whom
 
--- nothing new came for as long as it is awaited
+-- a pause, and as much more for each round of questions that brought nothing, up to the longest
+abbrev pub rest_of : CatchingUp → ℕ
+rest_of s = min (min (s.pace.pause * more (s.vain / (s.replicas - 1))) (2 ^ 64 - 1)) s.pace.most_pause
+
+-- nothing new came for so long, and for as long as an answer is awaited
 abbrev pub is_silent : (now : ℕ) → CatchingUp → Bool
-is_silent now s = nat_le s.wait (now - s.since)
+is_silent now s = nat_le (max s.wait (rest_of s)) (now - s.since)
 
 -- the peer's turn is over
 abbrev pub is_over : (now : ℕ) → CatchingUp → Bool
 is_over now s = nat_le s.pace.turn (now - s.began)
 
--- Its answer is in the midst, its turn is over, and its question was out for as long as something new is awaited: else an
--- answer that takes longer than a turn would never come to its end.
+-- Its answer is in the midst, its turn is over, and its question was out for as long as an answer is awaited: else one that
+-- takes longer than a turn would never come to its end.
 abbrev pub is_late : (now : ℕ) → CatchingUp → Bool
 is_late now s = is_some s.from && is_over now s && nat_le s.wait (now - s.asked)
 
@@ -106,6 +110,10 @@ due_question now s =
 abbrev pub ends_round : CatchingUp → Bool
 ends_round s = nat_lt (s.vain / (s.replicas - 1)) (more s.vain / (s.replicas - 1))
 
+-- it ends a round, and the last one's answer hasn't come
+abbrev pub gives_up : CatchingUp → Bool
+gives_up s = is_some s.from && ends_round s
+
 -- twice as much, up to the most; half as much, down to the least
 abbrev pub doubled : (most : ℕ) → ℕ → ℕ
 doubled most n = min (min (n * 2) (2 ^ 64 - 1)) most
@@ -123,7 +131,7 @@ asked now s = record s {
   from = Some (next_height s.height);
   is_served = false;
   vain = more s.vain;
-  wait = if ends_round s then doubled s.pace.most_pause s.wait else s.wait;
+  wait = if gives_up s then doubled s.pace.most_pause s.wait else s.wait;
 }
 
 -- ---- what is done at a look

@@ -2,7 +2,7 @@ ghost use Rattle.std.specs.Prelude.{◌≡◌, ◌-◌, ◌<◌, ◌≢◌, nat_
 ghost use Rattle.ids.specs.Sizes.{replicas};
 ghost use Rattle.catching_up.specs.States.{after_answer, asked, asked_by_look, due_question, is_awaited, is_behind, is_far};
 ghost use Rattle.catching_up.specs.States.{is_due, is_late, is_over, is_silent, looked, noted, resting, stays, unasked};
-ghost use Rattle.catching_up.specs.States.{doubled, ends_round, halved, next_height, served, unserved, whom};
+ghost use Rattle.catching_up.specs.States.{doubled, ends_round, gives_up, halved, next_height, rest_of, served, unserved, whom};
 
 use crate::pace::Pace;
 use crate::question::Question;
@@ -36,7 +36,7 @@ pub struct CatchingUp {
     is_served: bool,
     /// How many questions went out since something new came.
     vain: u64,
-    /// For how long something new is awaited before the next one is asked.
+    /// For how long an answer is awaited.
     wait: u64,
     /// How many bytes are asked for at once.
     bytes: u64,
@@ -193,11 +193,23 @@ impl CatchingUp {
         self.is_away
     }
 
-    /// Whether nothing new came for as long as it is awaited.
+    /// A pause, and as much more for each round of questions that brought nothing.
+    fn rest_of(&self) -> u64
+        ensures { result ≡ rest_of self.now }
+    {
+        let rounds = self.vain / u64::from(self.replicas - 1);
+        let pauses = rounds.saturating_add(1);
+        self.pace
+            .pause
+            .saturating_mul(pauses)
+            .min(self.pace.most_pause)
+    }
+
+    /// Whether nothing new came for so long, and for as long as an answer is awaited.
     fn is_silent(&self, now: u64) -> bool
         ensures { result ≡ is_silent now self.now }
     {
-        now.saturating_sub(self.since) >= self.wait
+        now.saturating_sub(self.since) >= self.wait.max(self.rest_of())
     }
 
     /// Whether the peer's turn is over.
@@ -207,8 +219,8 @@ impl CatchingUp {
         now.saturating_sub(self.began) >= self.pace.turn
     }
 
-    /// Whether the peer's answer is in the midst, its turn is over, and its question was out for as long as something new is
-    /// awaited: else an answer that takes longer than a turn would never come to its end.
+    /// Whether the peer's answer is in the midst, its turn is over, and its question was out for as long as an answer is
+    /// awaited: else one that takes longer than a turn would never come to its end.
     fn is_late(&self, now: u64) -> bool
         ensures { result ≡ is_late now self.now }
     {
@@ -263,6 +275,14 @@ impl CatchingUp {
         self.vain / others < self.vain.saturating_add(1) / others
     }
 
+    /// Whether the next question ends a round, and the last one's answer hasn't come: answers may take longer than they were
+    /// awaited.
+    fn gives_up(&self) -> bool
+        ensures { result ≡ gives_up self.now }
+    {
+        self.from.is_some() && self.ends_round()
+    }
+
     /// The question that is due goes out.
     fn ask(&mut self, now: u64, question: &Question)
         requires to { question.now.to ≡ whom now self.old }
@@ -272,7 +292,7 @@ impl CatchingUp {
         if !self.stays(now) {
             self.began = now;
         }
-        if self.ends_round() {
+        if self.gives_up() {
             self.wait = doubled(self.pace.most_pause, self.wait);
         }
         self.peer = question.to;

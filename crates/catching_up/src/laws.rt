@@ -8,8 +8,8 @@ pub fn each_is_asked()
     ensures { EachIsAsked }
 {}
 
-/// Each question is awaited for as long as something new is: so where answers take longer than a turn, who doubles that long
-/// enough gets one.
+/// Each answer is awaited for as long as it says: so where answers take longer than a turn, who doubles that long enough gets
+/// one.
 pub fn each_is_awaited()
     ensures { EachIsAwaited }
 {}

@@ -5,9 +5,9 @@ pub struct Pace {
     pub least: u64,
     /// How near it has to come before it asks no more: so many heights.
     pub near: u64,
-    /// After how long in which nothing was executed the next one is asked, at first and at least. Twice as long behind each
-    /// round in which none of the others brought something new, half as long behind each answer that did: where answers
-    /// take long, each would be given up before it came.
+    /// After how long in which nothing was executed the next one is asked; as much more for each round in which none of the
+    /// others brought something new. So long an answer is awaited, too, at first and at least: twice as long behind each
+    /// such round that ends without one, half as long behind each that brought something new.
     pub pause: u64,
     /// It is no longer than this.
     pub most_pause: u64,

@@ -9,8 +9,8 @@ pub const AWAY_HEIGHTS: u64 = 2048;
 /// between is asked for one by one.
 pub const NEAR_HEIGHTS: u64 = 256;
 
-/// Milliseconds in which nothing was executed behind which it asks the next one, at least: twice as many behind each round in
-/// vain, half as many behind each answer that brought something.
+/// Milliseconds in which nothing was executed behind which it asks the next one; as much more behind each round in vain. So
+/// long it awaits an answer, too: twice as long behind each round that ends without one.
 /// Fewer: two are asked for the same. More: who gives nothing costs more.
 pub const CATCH_UP_PAUSE_MILLIS: u64 = 100;
 
