@@ -94,7 +94,7 @@ impl<'a, G: Gate, O: Outgoing + Questioned + Recording> Worker<'a, G, O> {
                 self.taken(rt, steps, share, bytes);
                 true
             }
-            Err(Fault::BadTag | Fault::WrongJustify) => {
+            Err(Fault::BadTag | Fault::WrongJustify | Fault::Crowded) => {
                 self.need_recorded(rt, giver, bytes);
                 false
             }
