@@ -11,13 +11,12 @@ import tempfile
 import threading
 import time
 from contextlib import contextmanager
-from importlib.machinery import SourceFileLoader
-from importlib.util import module_from_spec, spec_from_loader
 
 HERE = os.path.dirname(os.path.abspath(__file__))
 sys.path.insert(0, os.path.join(os.path.dirname(HERE), "bin"))
 from deploying import Deployment, NotStarted  # noqa: E402
 from network import Network  # noqa: E402
+from scripts import beside  # noqa: E402
 
 FALSE_PARTY = os.path.join(HERE, "false_party.py")
 PORT = 7450             # of each replica
@@ -26,17 +25,7 @@ AGAIN = 0.2             # seconds before a connection that ended is followed by 
 STATUS = re.compile(r"replica \d+: (\d+) commands, \d+ a second; view (\d+), leader r\d+; height (\d+), (\d+) blocks held; "
                     r"(\d+) requests pending; (\d+) frames lost; (\d+) of \d+ others linked")
 STUCK = re.compile(r"replica \d+ is stuck: [^\n]*|replica \d+ stopped[^\n]*|mcbft: [^\n]*")
-
-
-def beside(name):
-    """The script of this name beside this one, as a module."""
-    spec = spec_from_loader(name, SourceFileLoader(name, os.path.join(HERE, name)))
-    module = module_from_spec(spec)
-    spec.loader.exec_module(module)
-    return module
-
-
-APART = beside("apart")
+APART = beside(__file__, "apart")
 Client, Ended, item, expect = APART.Client, APART.Ended, APART.item, APART.expect
 
 
