@@ -19,10 +19,11 @@ abbrev pub EachIsAsked : Type 0
 EachIsAsked = (s : CatchingUp) (peers : List ℕ) → IsSound s → AskInARow s peers → s.replicas ≤ length peers + 1
     → (peer : ℕ) → peer < s.replicas → peer ≢ s.own → Contains peers peer
 
--- Where nothing comes, the next question isn't due before the last one was out for as long as an answer is awaited, however
--- long a turn is.
+-- Before the last question's answer came to its end, the next one isn't due until that was out for as long as an answer is
+-- awaited: however long a turn is, and whatever was executed meanwhile.
 abbrev pub EachIsAwaited : Type 0
-EachIsAwaited = (s : CatchingUp) (now later : ℕ) → is_due later (asked now s) ≡ true → (asked now s).wait ≤ later - now
+EachIsAwaited = (s : CatchingUp) (now : ℕ) → s.is_served ≡ false → s.asked ≤ s.since → is_due now s ≡ true
+    → s.wait ≤ now - s.asked
 
 -- who told a height, and whether it lies
 pub record Teller : Type 0 where

@@ -10,8 +10,8 @@ pub const AWAY_HEIGHTS: u64 = 2048;
 pub const NEAR_HEIGHTS: u64 = 256;
 
 /// Milliseconds in which nothing was executed behind which it asks the next one; as much more behind each round in vain. So
-/// long it awaits an answer, too: twice as long behind each round that ends without one.
-/// Fewer: two are asked for the same. More: who gives nothing costs more.
+/// long it awaits an answer, too: twice as long behind each round that ends without one. Fewer: two are asked for the same.
+/// More: who gives nothing costs more.
 pub const CATCH_UP_PAUSE_MILLIS: u64 = 100;
 
 /// That is no longer than so many milliseconds.
@@ -21,8 +21,8 @@ pub const MOST_CATCH_UP_PAUSE_MILLIS: u64 = 5000;
 /// costs more.
 pub const CATCH_UP_TURN_MILLIS: u64 = 1000;
 
-/// Bytes that are asked for at once, at least: twice as many behind each answer in vain. Fewer: more questions. More: a replica takes
-/// nothing else for longer.
+/// Bytes that are asked for at once, at least: twice as many behind each answer in vain. Fewer: more questions. More: a
+/// replica takes nothing else for longer.
 pub const CATCH_UP_BYTES: u64 = 1_048_576;
 
 /// That is no more than half of what one sender may have waiting.
