@@ -127,6 +127,7 @@ found (p ∷ peers) old sound asks q lq other far =
               like.replicas,
               asks.4,
             );
+            awaiting = refl;
           }) asks.5 q (omega (arith, lq, like.replicas)) (λ e. other (e ∙ like.own))
           (let near : Far old.replicas old.own p q (length peers) =
           nearer old.replicas old.own old.peer q p (length peers) sound.own sound.peer lq other apart next far in

@@ -1,5 +1,5 @@
 -- What the turns and the numbers that were told are for.
-use Rattle.std.specs.Prelude.{ℕ, ◌≡◌, ◌≢◌, ◌+◌, ◌-◌, ◌<◌, ◌≤◌, Bool, false, true, List, [], ◌∷◌, Any, Contains, count_by, length, nat_le}
+use Rattle.std.specs.Prelude.{ℕ, ◌≡◌, ◌≢◌, ◌+◌, ◌-◌, ◌<◌, ◌≤◌, Bool, false, true, List, [], ◌∷◌, Any, Contains, count_by, is_some, length, nat_le}
 use Rattle.catching_up.specs.States.{CatchingUp, IsSound, asked, is_due, stays, whom}
 
 -- the same replica, of as many, and the same one was asked last
@@ -22,7 +22,7 @@ EachIsAsked = (s : CatchingUp) (peers : List ℕ) → IsSound s → AskInARow s 
 -- Before the last question's answer came to its end, the next one isn't due until that was out for as long as an answer is
 -- awaited: however long a turn is, and whatever was executed meanwhile.
 abbrev pub EachIsAwaited : Type 0
-EachIsAwaited = (s : CatchingUp) (now : ℕ) → s.is_served ≡ false → s.asked ≤ s.since → is_due now s ≡ true
+EachIsAwaited = (s : CatchingUp) (now : ℕ) → IsSound s → is_some s.from ≡ true → s.asked ≤ s.since → is_due now s ≡ true
     → s.wait ≤ now - s.asked
 
 -- who told a height, and whether it lies

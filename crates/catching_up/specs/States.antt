@@ -1,5 +1,5 @@
 -- What a replica asked, and what came of it.
-use Rattle.std.specs.Prelude.{ℕ, ◌-◌, ◌*◌, ◌/◌, ◌^◌, ◌<◌, ◌==◌, ◌&&◌, ◌||◌, not, max, min, nat_le, nat_lt, Bool, false, true}
+use Rattle.std.specs.Prelude.{ℕ, ◌≡◌, ◌-◌, ◌*◌, ◌/◌, ◌^◌, ◌<◌, ◌==◌, ◌&&◌, ◌||◌, not, max, min, nat_le, nat_lt, Bool, false, true}
 use Rattle.std.specs.Prelude.{if◌then◌else◌, is_some, Option, Some, None}
 use Rattle.std.specs.Option.{option_map_or}
 use Rattle.ids.specs.Sizes.{Sizes, replicas}
@@ -75,9 +75,9 @@ away s = record s { is_away = true }
 abbrev pub rest_of : CatchingUp → ℕ
 rest_of s = min (min (s.pace.pause * more (s.vain / (s.replicas - 1))) (2 ^ 64 - 1)) s.pace.most_pause
 
--- nothing new came for so long, and for as long as an answer is awaited
+-- nothing new came for so long; while an answer is awaited, for as long as that is, too
 abbrev pub is_silent : (now : ℕ) → CatchingUp → Bool
-is_silent now s = nat_le (max s.wait (rest_of s)) (now - s.since)
+is_silent now s = nat_le (if is_some s.from then max s.wait (rest_of s) else rest_of s) (now - s.since)
 
 -- the peer's turn is over
 abbrev pub is_over : (now : ℕ) → CatchingUp → Bool
@@ -106,14 +106,6 @@ abbrev pub due_question : (now : ℕ) → CatchingUp → Option Question
 due_question now s =
     if is_due now s then Some (record { to = whom now s; from = next_height s.height; bytes = s.bytes }) else None
 
--- with it as many went out, or twice as many and so on, as there are others, and brought nothing
-abbrev pub ends_round : CatchingUp → Bool
-ends_round s = nat_lt (s.vain / (s.replicas - 1)) (more s.vain / (s.replicas - 1))
-
--- it ends a round, and the last one's answer hasn't come
-abbrev pub gives_up : CatchingUp → Bool
-gives_up s = is_some s.from && ends_round s
-
 -- twice as much, up to the most; half as much, down to the least
 abbrev pub doubled : (most : ℕ) → ℕ → ℕ
 doubled most n = min (min (n * 2) (2 ^ 64 - 1)) most
@@ -121,7 +113,7 @@ doubled most n = min (min (n * 2) (2 ^ 64 - 1)) most
 abbrev pub halved : (least : ℕ) → ℕ → ℕ
 halved least n = max (n / 2) least
 
--- it went out
+-- It went out. Where the last one's answer hasn't come, that was awaited too short, or asked for too much.
 abbrev pub asked : (now : ℕ) → CatchingUp → CatchingUp
 asked now s = record s {
   peer = whom now s;
@@ -131,7 +123,8 @@ asked now s = record s {
   from = Some (next_height s.height);
   is_served = false;
   vain = more s.vain;
-  wait = if gives_up s then doubled s.pace.most_pause s.wait else s.wait;
+  wait = if is_some s.from then doubled s.pace.most_pause s.wait else s.wait;
+  bytes = if is_some s.from then halved s.pace.bytes s.bytes else s.bytes;
 }
 
 -- ---- what is done at a look
@@ -152,12 +145,16 @@ looked now height foremost s =
 abbrev pub is_awaited : Question → CatchingUp → Bool
 is_awaited question s = (s.peer == question.to) && option_map_or (λ from. from == question.from) s.from false
 
+-- behind an answer that took so long the next one is awaited for twice as long, at least for a pause
+abbrev pub wait_behind : (took : ℕ) → Pace → ℕ
+wait_behind took pace = max (doubled pace.most_pause took) pace.pause
+
 -- the answer came to its end, and served
-abbrev pub served : CatchingUp → CatchingUp
-served s = record s {
+abbrev pub served : (now : ℕ) → CatchingUp → CatchingUp
+served now s = record s {
   from = None;
   is_served = true;
-  wait = halved s.pace.pause s.wait;
+  wait = wait_behind (now - s.asked) s.pace;
   bytes = halved s.pace.bytes s.bytes;
 }
 
@@ -166,16 +163,16 @@ abbrev pub unserved : CatchingUp → CatchingUp
 unserved s = record s { from = None; is_served = false; bytes = doubled s.pace.most_bytes s.bytes }
 
 -- it served, where the height that it was asked from was executed by then
-abbrev pub after_answer : Question → CatchingUp → CatchingUp
-after_answer question s =
+abbrev pub after_answer : (now : ℕ) → Question → CatchingUp → CatchingUp
+after_answer now question s =
     if not (is_awaited question s) then s
-    else if nat_le question.from s.height then served s
+    else if nat_le question.from s.height then served now s
     else unserved s
 
 -- ---- what always holds
 
--- it is one of the replicas, of which there are others, and so is who was asked
 pub record IsSound (s : CatchingUp) : Type 0 where
   pub others : 1 < s.replicas
-  pub own : s.own < s.replicas
-  pub peer : s.peer < s.replicas
+  pub own : s.own < s.replicas  -- it is one of the replicas
+  pub peer : s.peer < s.replicas  -- and so is who was asked
+  pub awaiting : (is_some s.from && s.is_served) ≡ false  -- what it awaits hasn't served yet

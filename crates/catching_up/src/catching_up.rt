@@ -2,7 +2,7 @@ ghost use Rattle.std.specs.Prelude.{◌≡◌, ◌-◌, ◌<◌, ◌≢◌, nat_
 ghost use Rattle.ids.specs.Sizes.{replicas};
 ghost use Rattle.catching_up.specs.States.{after_answer, asked, asked_by_look, due_question, is_awaited, is_behind, is_far};
 ghost use Rattle.catching_up.specs.States.{is_due, is_late, is_over, is_silent, looked, noted, resting, stays, unasked};
-ghost use Rattle.catching_up.specs.States.{doubled, ends_round, gives_up, halved, next_height, rest_of, served, unserved, whom};
+ghost use Rattle.catching_up.specs.States.{doubled, halved, next_height, rest_of, served, unserved, wait_behind, whom};
 
 use crate::pace::Pace;
 use crate::question::Question;
@@ -115,6 +115,13 @@ fn halved(least: u64, n: u64) -> u64
     (n / 2).max(least)
 }
 
+/// For how long an answer is awaited behind one that took so long.
+fn wait_behind(took: u64, pace: &Pace) -> u64
+    ensures { result ≡ wait_behind took pace.now }
+{
+    doubled(pace.most_pause, took).max(pace.pause)
+}
+
 /// The height behind one.
 fn next_height(height: Height) -> Height
     ensures { result ≡ next_height height }
@@ -205,11 +212,17 @@ impl CatchingUp {
             .min(self.pace.most_pause)
     }
 
-    /// Whether nothing new came for so long, and for as long as an answer is awaited.
+    /// Whether nothing new came for so long; while an answer is awaited, for as long as that is, too.
     fn is_silent(&self, now: u64) -> bool
         ensures { result ≡ is_silent now self.now }
     {
-        now.saturating_sub(self.since) >= self.wait.max(self.rest_of())
+        let rest = self.rest_of();
+        let most = if self.from.is_some() {
+            self.wait.max(rest)
+        } else {
+            rest
+        };
+        now.saturating_sub(self.since) >= most
     }
 
     /// Whether the peer's turn is over.
@@ -267,23 +280,8 @@ impl CatchingUp {
         })
     }
 
-    /// Whether with the next question as many went out as there are others, or twice as many and so on, and brought nothing.
-    fn ends_round(&self) -> bool
-        ensures { result ≡ ends_round self.now }
-    {
-        let others = u64::from(self.replicas - 1);
-        self.vain / others < self.vain.saturating_add(1) / others
-    }
-
-    /// Whether the next question ends a round, and the last one's answer hasn't come: answers may take longer than they were
-    /// awaited.
-    fn gives_up(&self) -> bool
-        ensures { result ≡ gives_up self.now }
-    {
-        self.from.is_some() && self.ends_round()
-    }
-
-    /// The question that is due goes out.
+    /// The question that is due goes out. Where the last one's answer hasn't come, that was awaited too short, or asked for too
+    /// much.
     fn ask(&mut self, now: u64, question: &Question)
         requires to { question.now.to ≡ whom now self.old }
         requires from { question.now.from ≡ next_height self.old.height }
@@ -292,8 +290,9 @@ impl CatchingUp {
         if !self.stays(now) {
             self.began = now;
         }
-        if self.gives_up() {
+        if self.from.is_some() {
             self.wait = doubled(self.pace.most_pause, self.wait);
+            self.bytes = halved(self.pace.bytes, self.bytes);
         }
         self.peer = question.to;
         self.since = now;
@@ -328,12 +327,13 @@ impl CatchingUp {
     }
 
     /// The answer that it awaits came to its end, and brought something new.
-    fn serve(&mut self)
-        ensures { self.new ≡ served self.old }
+    fn serve(&mut self, now: u64)
+        ensures { self.new ≡ served now self.old }
     {
+        let took = now.saturating_sub(self.asked);
         self.from = None;
         self.is_served = true;
-        self.wait = halved(self.pace.pause, self.wait);
+        self.wait = wait_behind(took, &self.pace);
         self.bytes = halved(self.pace.bytes, self.bytes);
     }
 
@@ -349,14 +349,14 @@ impl CatchingUp {
     /// The answer to a question came to its end: all of it was taken. Any other end than the one that is awaited is passed
     /// over.
     pub fn answered(&mut self, now: u64, height: Height, question: &Question)
-        ensures { self.new ≡ after_answer question.now (noted now height self.old) }
+        ensures { self.new ≡ after_answer now question.now (noted now height self.old) }
     {
         self.note(now, height);
         if !self.is_awaited(question) {
             return;
         }
         if self.height.0 >= question.from.0 {
-            self.serve();
+            self.serve(now);
         } else {
             self.fail();
         }

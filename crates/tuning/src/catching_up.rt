@@ -10,8 +10,8 @@ pub const AWAY_HEIGHTS: u64 = 2048;
 pub const NEAR_HEIGHTS: u64 = 256;
 
 /// Milliseconds in which nothing was executed behind which it asks the next one; as much more behind each round in vain. So
-/// long it awaits an answer, too: twice as long behind each round that ends without one. Fewer: two are asked for the same.
-/// More: who gives nothing costs more.
+/// long it awaits an answer, too, at least: twice as long as the last one took. Fewer: two are asked for the same. More: who
+/// gives nothing costs more.
 pub const CATCH_UP_PAUSE_MILLIS: u64 = 100;
 
 /// That is no longer than so many milliseconds.
