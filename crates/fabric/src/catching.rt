@@ -5,14 +5,13 @@ ghost use Rattle.fabric.specs.Shares.{HasGrown};
 use crate::parcel::Answer;
 use crate::questioned::Questioned;
 use crate::recording::Recording;
-use crate::waiting::Carried;
+use crate::waiting::Waiting;
 use crate::worker::{OWN, Outgoing, Worker};
 use bytes::Bytes;
 use frames_view::{Frame, read};
 use ids::{Fault, Height, ReplicaId};
 use std::sync::Wait;
 use std::time::Clock;
-use tuning::CATCH_UP_BYTES;
 use turns::{Gate, Share, Steps};
 
 impl<'a, G: Gate, O: Outgoing + Questioned + Recording> Worker<'a, G, O> {
@@ -31,8 +30,8 @@ impl<'a, G: Gate, O: Outgoing + Questioned + Recording> Worker<'a, G, O> {
         }
     }
 
-    /// Takes what another replica answered, where this one was asked and the answer is awaited. Announcements come where there is nothing more, and where
-    /// the last question was in vain: a block of a later view may stand higher than this one lets in.
+    /// Takes what another replica answered, where this one was asked and the answer is awaited. Announcements come where there
+    /// is nothing more, and where a frame lacks a block: one of a later view may stand higher than this one lets in.
     pub(crate) fn take_answer<R: Wait + Clock, S: Steps>(
         &mut self,
         rt: &R,
@@ -52,14 +51,15 @@ impl<'a, G: Gate, O: Outgoing + Questioned + Recording> Worker<'a, G, O> {
         if from != question.to || !self.out.awaits(rt, &question) {
             return;
         }
-        self.take_recorded(rt, steps, share, from, frames);
-        if is_last || question.bytes > CATCH_UP_BYTES {
+        let is_whole = self.take_recorded(rt, steps, share, from, frames);
+        if is_last || !is_whole {
             self.take_announced(rt, steps, share, announced);
         }
         self.out.answered(rt, &question);
     }
 
-    /// Takes frames that a replica recorded, up to the first that lacks a block, or is wrong.
+    /// Takes frames that a replica recorded, up to the first that lacks a block. Whether none did. The block that it lacks is
+    /// asked for, where this replica couldn't take some of them by its frame: others may have it.
     fn take_recorded<R: Wait + Clock, S: Steps>(
         &mut self,
         rt: &R,
@@ -67,47 +67,44 @@ impl<'a, G: Gate, O: Outgoing + Questioned + Recording> Worker<'a, G, O> {
         share: &mut Share,
         giver: ReplicaId,
         frames: Vec<Bytes>,
-    )
+    ) -> bool
         ensures { HasGrown share.old share.new }
     {
+        let mut is_one_out = false;
         for bytes in frames {
-            if !self.takes_recorded(rt, steps, share, giver, &bytes) {
-                break;
+            match self.bring_recorded(rt, steps, share, &bytes) {
+                Err(Fault::UnknownParent) => {
+                    if is_one_out {
+                        self.need_parent(rt, giver, bytes);
+                    }
+                    return false;
+                }
+                Err(Fault::BadTag | Fault::WrongJustify | Fault::Crowded) => is_one_out = true,
+                _ => {}
             }
         }
+        true
     }
 
-    /// Takes one frame that a replica recorded. Whether the next one may be taken. A block that this replica can't take by
-    /// the frame is asked for, on the account of who gave it: others may have it.
-    fn takes_recorded<R: Wait + Clock, S: Steps>(
+    /// The turn of a frame that a replica recorded.
+    fn bring_recorded<R: Wait + Clock, S: Steps>(
         &mut self,
         rt: &R,
         steps: &mut S,
         share: &mut Share,
-        giver: ReplicaId,
         bytes: &Bytes,
-    ) -> bool
+    ) -> Result<(), Fault>
         ensures { HasGrown share.old share.new }
     {
-        match self.bring(rt, steps, share, OWN, bytes) {
-            Ok(()) => {
-                self.taken(rt, steps, share, bytes);
-                true
-            }
-            Err(Fault::BadTag | Fault::WrongJustify | Fault::Crowded) => {
-                self.need_recorded(rt, giver, bytes);
-                false
-            }
-            Err(Fault::UnknownParent) => false,
-            Err(_) => true,
-        }
+        self.bring(rt, steps, share, OWN, bytes)?;
+        self.taken(rt, steps, share, bytes);
+        Ok(())
     }
 
-    /// All are asked for the block of a frame.
-    fn need_recorded<R: Wait + Clock>(&self, rt: &R, giver: ReplicaId, bytes: &Bytes) {
-        let carried = Carried::by(&self.keyring.config(), bytes.as_slice());
-        if let Some(block) = carried.block() {
-            self.out.need(rt, block, giver);
+    /// All are asked for the block that a frame lacks, on the account of who gave the frame.
+    fn need_parent<R: Wait + Clock>(&self, rt: &R, giver: ReplicaId, bytes: Bytes) {
+        if let Some(frame) = Waiting::new(&self.keyring.config(), OWN, bytes) {
+            self.out.need(rt, frame.lacks, giver);
         }
     }
 
