@@ -216,7 +216,7 @@ class FalseReplica:
         self.mind, self.draw, self.links, self.number = mind, mind.draw, links, number
         self.keyring = mind.keyrings[0]
         self.moods = [self.half_votes, self.votes, self.old_frames, self.mangle, self.new_views, self.propose, self.blocks,
-                      self.fetches, self.passed, self.letters, self.replies, self.raw, self.silence]
+                      self.fetches, self.passed, self.letters, self.asks_on, self.replies, self.raw, self.silence]
 
     def others(self):
         return [replica for replica in range(self.mind.config.n) if replica != self.number]
@@ -314,6 +314,11 @@ class FalseReplica:
         name = self.draw.choice(list(say))
         for _ in range(self.draw.choice([1, 1, 30])):
             self.tell(letters.write(name, say[name]()))
+
+    def asks_on(self):
+        """Asks for all that others recorded, faster than they can send it."""
+        for _ in range(20):
+            self.tell(letters.write("asked", [1, HIGHEST]))
 
     def replies(self):
         """Wrong answers to what clients asked."""

@@ -1,3 +1,4 @@
+pub mod InARow
 pub mod GoingRound
 pub mod Raising
 pub mod Tellers

@@ -1,5 +1,6 @@
 -- What the turns and the numbers that were told are for.
-use Rattle.std.specs.Prelude.{ℕ, ◌≡◌, ◌≢◌, ◌+◌, ◌-◌, ◌<◌, ◌≤◌, Bool, false, true, List, [], ◌∷◌, Any, Contains, count_by, is_some, length, nat_le}
+use Rattle.std.specs.Prelude.{ℕ, ◌≡◌, ◌≢◌, ◌+◌, ◌-◌, ◌<◌, ◌≤◌, Bool, false, true, List, [], ◌∷◌, Any, Contains, Option, Some, count_by, is_some, length, nat_le, sum_by}
+use Rattle.catching_up.specs.Giving.{counted_until}
 use Rattle.catching_up.specs.States.{CatchingUp, IsSound, asked, is_due, stays, whom}
 
 -- the same replica, of as many, and the same one was asked last
@@ -35,3 +36,21 @@ abbrev pub ACorrectOneTold : Type 0
 ACorrectOneTold = (faults height : ℕ) (tellers : List Teller) → count_by (λ t. t.lies) tellers ≤ faults
     → faults < count_by (λ t. nat_le height t.height) tellers
     → Any (λ t. (height ≤ t.height) × (t.lies ≡ false)) tellers
+
+-- an answer that is given: when, and for how long it counts
+pub record Given : Type 0 where
+  pub now : ℕ
+  pub cost : ℕ
+
+-- These were given one after the other, where what was given before is counted until one moment, and what was behind them
+-- until another.
+abbrev pub GivenInARow : (ahead until : ℕ) → List Given → (behind : ℕ) → Type 0
+GivenInARow ahead until [] behind = until ≡ behind
+GivenInARow ahead until (g ∷ gs) behind =
+    (next : ℕ) × (counted_until ahead until g.now g.cost ≡ Some next) × GivenInARow ahead next gs behind
+
+-- All that is given before an answer costs no more than the time since the first, and what one may be ahead.
+abbrev pub LittleIsGiven : Type 0
+LittleIsGiven = (ahead until behind : ℕ) (first last : Given) (gs : List Given) → GivenInARow ahead until (first ∷ gs) behind
+    → is_some (counted_until ahead behind last.now last.cost) ≡ true
+    → first.now + sum_by (λ g. g.cost) (first ∷ gs) ≤ last.now + ahead

@@ -1,3 +1,4 @@
+pub mod Giving
 pub mod Told
 pub mod Turns
 pub mod States

@@ -6,6 +6,7 @@
 #![tactic(auto)]
 
 mod catching_up;
+mod giving;
 mod laws;
 mod pace;
 mod question;
@@ -13,7 +14,8 @@ mod ring;
 mod told;
 
 pub use catching_up::CatchingUp;
-pub use laws::{a_correct_one_told, each_is_asked, each_is_awaited};
+pub use giving::counted_until;
+pub use laws::{a_correct_one_told, each_is_asked, each_is_awaited, little_is_given};
 pub use pace::Pace;
 pub use question::Question;
 pub use told::{foremost, is_beyond};

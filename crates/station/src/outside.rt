@@ -70,7 +70,7 @@ impl<P: Post> Recording for Outside<'_, '_, P> {
 
     fn answer<R: Wait + Clock>(&self, rt: &R, alloc: Global, from: ReplicaId, question: Question) {
         let recorder = self.station.recorder();
-        if !recorder.may_answer(from, self.now(rt)) {
+        if !recorder.may_answer(from, self.now(rt), question.bytes) {
             return;
         }
         if let Ok(answer) = recorder.answer(rt, alloc, question) {

@@ -1,7 +1,7 @@
 //! What a replica recorded for others.
 
 use bytes::Bytes;
-use catching_up::Question;
+use catching_up::{Question, counted_until};
 use fabric::Answer;
 use frame_record::{Announced, Announcements, FrameRecord, Recorded};
 use frames_view::{CoreView, Frame, read};
@@ -10,22 +10,30 @@ use std::alloc::{AllocError, Global};
 use std::sync::atomic::AtomicU64;
 use std::sync::atomic::Ordering::SeqCst;
 use std::sync::{Mutex, Wait};
-use tuning::{ANSWER_PAUSE_MILLIS, MOST_CATCH_UP_BYTES};
+use tuning::{
+    ANSWER_BYTES_A_MILLI, ANSWERS_AHEAD_MILLIS, LEAST_ANSWER_MILLIS, MOST_CATCH_UP_BYTES,
+};
 
 /// A number of bytes as what memory is counted in.
 fn size_of(bytes: u64) -> usize {
     usize::try_from(bytes).unwrap_or(usize::MAX)
 }
 
-/// The frames that a replica took, each of the two kinds under a lock, and when it answered whom. Threads share it by
+/// For how long an answer counts of those that are given to one replica, where that asks for so many bytes.
+fn cost_of(bytes: u64) -> u64 {
+    let millis = bytes.min(MOST_CATCH_UP_BYTES) / ANSWER_BYTES_A_MILLI;
+    millis.max(LEAST_ANSWER_MILLIS)
+}
+
+/// The frames that a replica took, each of the two kinds under a lock, and what it gave to whom. Threads share it by
 /// reference.
 #[derive(Drop)]
 pub(crate) struct Recorder {
     config: Config,
     frames: Mutex<FrameRecord>,
     announcements: Mutex<Announcements>,
-    /// Until when each replica gets no other answer, in milliseconds.
-    answered: Vec<AtomicU64>,
+    /// Until when what each replica was given is counted, in milliseconds.
+    given: Vec<AtomicU64>,
 }
 
 impl Recorder {
@@ -35,16 +43,16 @@ impl Recorder {
         config: Config,
         megabytes: u64,
     ) -> Result<Recorder, AllocError> {
-        let mut answered = Vec::new(alloc);
+        let mut given = Vec::new(alloc);
         for _ in 0..config.n() {
-            answered.push(AtomicU64::new(0))?;
+            given.push(AtomicU64::new(0))?;
         }
         let most = size_of(megabytes.saturating_mul(1 << 20));
         Ok(Recorder {
             config,
             frames: Mutex::new(FrameRecord::new(alloc, most)),
             announcements: Mutex::new(Announcements::new(alloc, config)?),
-            answered,
+            given,
         })
     }
 
@@ -83,15 +91,16 @@ impl Recorder {
         let _refused = self.frames.lock(rt).put(recorded);
     }
 
-    /// Whether a replica that asks now gets an answer: the last one went out some time ago.
-    pub(crate) fn may_answer(&self, from: ReplicaId, now: u64) -> bool {
-        let Some(until) = self.answered.get(usize::from(from.0)) else {
+    /// Whether a replica that asks for so many bytes now gets an answer: it wasn't given too much of late.
+    pub(crate) fn may_answer(&self, from: ReplicaId, now: u64, bytes: u64) -> bool {
+        let Some(given) = self.given.get(usize::from(from.0)) else {
             return false;
         };
-        if now < until.load(SeqCst) {
+        let until = given.load(SeqCst);
+        let Some(next) = counted_until(ANSWERS_AHEAD_MILLIS, until, now, cost_of(bytes)) else {
             return false;
-        }
-        until.store(now.saturating_add(ANSWER_PAUSE_MILLIS), SeqCst);
+        };
+        given.store(next, SeqCst);
         true
     }
 

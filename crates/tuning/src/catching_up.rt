@@ -28,5 +28,13 @@ pub const CATCH_UP_BYTES: u64 = 1_048_576;
 /// That is no more than half of what one sender may have waiting.
 pub const MOST_CATCH_UP_BYTES: u64 = 8_388_608;
 
-/// Milliseconds between two answers to one replica, at least. Fewer: who asks without end costs more.
-pub const ANSWER_PAUSE_MILLIS: u64 = 2;
+/// Bytes of an answer that count for a millisecond of what a replica is given. Fewer: who fell behind comes back later. More:
+/// who asks without end costs more.
+pub const ANSWER_BYTES_A_MILLI: u64 = 32_768;
+
+/// Milliseconds that an answer counts for, at least. Fewer: who asks for little without end costs more.
+pub const LEAST_ANSWER_MILLIS: u64 = 2;
+
+/// Milliseconds that what a replica was given may count ahead. Fewer: who takes much at once waits. More: who asks without end
+/// gets more at once.
+pub const ANSWERS_AHEAD_MILLIS: u64 = 1000;
