@@ -3,7 +3,7 @@ use Rattle.std.specs.Prelude.{ℕ, ◌+◌, ◌*◌, ◌/◌, ◌-◌, ◌^◌, 
 use Rattle.std.specs.Prelude.{if◌then◌else◌, nat_lt, false, Option, Some, None}
 use Rattle.std.specs.Option.{option_or}
 use Rattle.tuning.specs.declared.clocks.TheConstants.{CALM_MILLIS, COMMAND_SHARE, LAG_WEIGHT, LEAD_PART, LEAST_BEAT_MILLIS}
-use Rattle.tuning.specs.declared.clocks.TheConstants.{LEAST_COMMAND_MILLIS, MOST_COUNTED, MOST_UNDECIDED, VIEW_LIMIT}
+use Rattle.tuning.specs.declared.clocks.TheConstants.{LEAST_COMMAND_MILLIS, MOST_COUNTED, MOST_SLACK, MOST_UNDECIDED, VIEW_LIMIT}
 use Rattle.clock.specs.declared.watch.LeadFrom.{LeadFrom}
 use Rattle.clock.specs.declared.watch.LeadFrom.TheVariants.{Certified, Lock}
 use Rattle.clock.specs.declared.watch.Pulse.{Pulse}
@@ -30,6 +30,7 @@ unseen replicas times = record {
   stuck = 0;
   led = None;
   vain = 0;
+  slack = 1;
   served = false;
   calm = 0;
 }
@@ -38,11 +39,15 @@ unseen replicas times = record {
 abbrev pub moved : Watch → Pulse → Bool
 moved w p = not ((p.view == w.view) && (p.executed == w.executed))
 
+-- how many milliseconds a command may take in its view
+abbrev pub borne : Watch → ℕ
+borne w = min (w.patience * w.slack) (2 ^ 64 - 1)
+
 -- The commands that were executed since it was looked at last took longer than they may, for each request that
 -- waits, up to so many of them. Where none waits it doesn't lag.
 abbrev pub lags : Watch → ℕ → Pulse → Bool
 lags w now p =
-    nat_lt (min ((p.executed - w.executed) * w.patience) (2 ^ 64 - 1))
+    nat_lt (min ((p.executed - w.executed) * borne w) (2 ^ 64 - 1))
     (min ((now - w.looked) * min p.pending MOST_COUNTED) (2 ^ 64 - 1))
 
 -- how slow its view was: each millisecond in which it lagged counts so much, each other one takes one back
@@ -68,6 +73,14 @@ vain_after w now p =
     if p.view == w.view then (if is_calm w now then w.vain / 2 else w.vain)
     else if w.served then w.vain / 2
     else min (w.vain + (p.view - w.view)) (2 ^ 64 - 1)
+
+-- How many times as long as usual a command may take: twice as many behind each view that ended though something was executed
+-- in it, up to the most, for the next leader may be no faster; half as many while a view is calm.
+abbrev pub slack_after : Watch → ℕ → Pulse → ℕ
+slack_after w now p =
+    if p.view == w.view then (if is_calm w now then max (w.slack / 2) 1 else w.slack)
+    else if w.served then min (min (w.slack * 2) (2 ^ 64 - 1)) MOST_SLACK
+    else w.slack
 
 -- something was executed in the view that it is in
 abbrev pub served_after : Watch → Pulse → Bool
@@ -168,6 +181,7 @@ looked w now p = record {
   stuck = if is_stuck w now p then w.stuck else now;
   led = if is_stuck w now p then option_or (lead_of w now p) w.led else None;
   vain = vain_after w now p;
+  slack = slack_after w now p;
   served = served_after w p;
   calm = calm_after w now p;
 }

@@ -1,14 +1,14 @@
 //! What is due to one replica.
 
 ghost use Rattle.std.specs.Prelude.{◌≡◌, ◌-◌, if◌then◌else◌};
-ghost use Rattle.clock.specs.Watching.{calm_after, climbs, due_of, is_calm, is_over, is_overdue, lags, lead_after, lead_where, limit_of};
+ghost use Rattle.clock.specs.Watching.{borne, calm_after, climbs, due_of, is_calm, is_over, is_overdue, lags, lead_after, lead_where, limit_of};
 ghost use Rattle.clock.specs.Watching.{looked, most_undecided, moved, next_lead, settled, stuck_for};
-ghost use Rattle.clock.specs.Watching.{patience_of, pause_after, rests, served_after, slow_after, unseen, vain_after};
+ghost use Rattle.clock.specs.Watching.{patience_of, pause_after, rests, served_after, slack_after, slow_after, unseen, vain_after};
 
 use ids::{Fault, Height, View};
 use tuning::{
     CALM_MILLIS, COMMAND_SHARE, LAG_WEIGHT, LEAD_PART, LEAST_BEAT_MILLIS, LEAST_COMMAND_MILLIS,
-    MOST_COUNTED, MOST_UNDECIDED, VIEW_LIMIT,
+    MOST_COUNTED, MOST_SLACK, MOST_UNDECIDED, VIEW_LIMIT,
 };
 
 /// What is seen of a replica at one moment.
@@ -79,6 +79,8 @@ pub struct Watch {
     led: Option<LeadFrom>,
     /// How many views passed in vain, and whether something was executed in this one.
     vain: u64,
+    /// How many times as long as usual a command may take.
+    slack: u64,
     served: bool,
     /// Since when its view wasn't slow at all, or half of those views were forgotten.
     calm: u64,
@@ -152,6 +154,7 @@ impl Watch {
             stuck: 0,
             led: None,
             vain: 0,
+            slack: 1,
             served: false,
             calm: 0,
         }
@@ -164,6 +167,13 @@ impl Watch {
         !(pulse.view.0 == self.view.0 && pulse.executed == self.executed)
     }
 
+    /// How many milliseconds a command may take in its view.
+    fn borne(&self) -> u64
+        ensures { result ≡ borne self.now }
+    {
+        self.patience.saturating_mul(self.slack)
+    }
+
     /// Whether requests wait, and the commands that were executed since it was looked at last took too long. Where
     /// several wait, so many more have to come in the same time: else a leader could let each wait, and bring them
     /// together.
@@ -173,7 +183,7 @@ impl Watch {
         let executed = pulse.executed.saturating_sub(self.executed);
         let passed = now.saturating_sub(self.looked);
         let waiting = pulse.pending.min(MOST_COUNTED);
-        executed.saturating_mul(self.patience) < passed.saturating_mul(waiting)
+        executed.saturating_mul(self.borne()) < passed.saturating_mul(waiting)
     }
 
     /// How slow its view has been with what is seen at this moment.
@@ -226,6 +236,25 @@ impl Watch {
         } else {
             let passed = pulse.view.0.saturating_sub(self.view.0);
             self.vain.saturating_add(passed)
+        }
+    }
+
+    /// How many times as long as usual a command may take: twice as many behind each view that ended though something was
+    /// executed in it, up to the most; half as many while a view is calm. Where all leaders are slow, as on a machine that has
+    /// too much to do, views would else pass without end, and bring ever less.
+    fn slack_after(&self, now: u64, pulse: Pulse) -> u64
+        ensures { result ≡ slack_after self.now now pulse }
+    {
+        if pulse.view.0 == self.view.0 {
+            if self.is_calm(now) {
+                (self.slack / 2).max(1)
+            } else {
+                self.slack
+            }
+        } else if self.served {
+            self.slack.saturating_mul(2).min(MOST_SLACK)
+        } else {
+            self.slack
         }
     }
 
@@ -323,7 +352,7 @@ impl Watch {
         ensures watch { self.new ≡ looked self.old now pulse }
     {
         let (moved, slow) = (self.has_moved(pulse), self.slow_after(now, pulse));
-        let vain = self.vain_after(now, pulse);
+        let (vain, slack) = (self.vain_after(now, pulse), self.slack_after(now, pulse));
         let limit = limit_of(self.limit, vain);
         let over = self.is_over(now, limit, slow, pulse) || self.climbs(pulse);
         let (rests, overdue) = (self.rests(pulse), self.is_overdue(now, pulse));
@@ -344,6 +373,7 @@ impl Watch {
             stuck: if stuck { self.stuck } else { now },
             led: if stuck { lead.or(self.led) } else { None },
             vain,
+            slack,
             served: self.served_after(pulse),
             calm: self.calm_after(now, pulse),
         };
