@@ -216,7 +216,7 @@ class FalseReplica:
         self.mind, self.draw, self.links, self.number = mind, mind.draw, links, number
         self.keyring = mind.keyrings[0]
         self.moods = [self.half_votes, self.votes, self.old_frames, self.mangle, self.new_views, self.propose, self.blocks,
-                      self.fetches, self.passed, self.letters, self.asks_on, self.replies, self.raw, self.silence]
+                      self.fetches, self.fetches_on, self.passed, self.letters, self.asks_on, self.replies, self.raw, self.silence]
 
     def others(self):
         return [replica for replica in range(self.mind.config.n) if replica != self.number]
@@ -292,6 +292,16 @@ class FalseReplica:
             frame = frames.FetchFrame(self.number, self.mind.digest())
             to = self.draw.choice(self.others())
             self.links.say(to, frames.write(replace(frame, tag=self.keyring.tag(Kind.FETCH, to, frame.content()))))
+
+    def fetches_on(self):
+        """Asks for one of the largest blocks, faster than they can send it."""
+        texts = self.mind.heard[Kind.PROPOSAL]
+        if texts:
+            digest = frames.read(self.mind.config, max(texts, key=len)).core.digest()
+            for to in self.others():
+                frame = frames.FetchFrame(self.number, digest)
+                frame = replace(frame, tag=self.keyring.tag(Kind.FETCH, to, frame.content()))
+                self.links.say_raw(to, 200 * wires.on_wire(frames.write(frame)))
 
     def passed(self):
         request = self.mind.frame(Kind.REQUEST)
