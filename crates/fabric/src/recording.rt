@@ -7,8 +7,8 @@ use std::alloc::Global;
 use std::sync::Wait;
 use std::time::Clock;
 
-/// Where it is kept what a replica took, and what it asks others for where it fell behind. Who keeps nothing answers nobody,
-/// and never asks.
+/// Where it is kept what a replica took and gave, and what it asks others for where it fell behind. Who keeps nothing answers
+/// nobody, and never asks.
 pub trait Recording {
     /// A frame was taken. The replica voted for the block that it brings, where this is one.
     fn record<R: Wait>(&self, _rt: &R, _bytes: &Bytes, _voted: Option<Digest>) {}
@@ -26,6 +26,14 @@ pub trait Recording {
         _from: ReplicaId,
         _question: Question,
     ) {}
+
+    /// Whether another replica that asks for a block is given it: it wasn't given too many of late.
+    fn may_supply<R: Wait + Clock>(&self, _rt: &R, _to: ReplicaId) -> bool {
+        true
+    }
+
+    /// A question of another replica for a block was taken.
+    fn supplied<R: Wait + Clock>(&self, _rt: &R, _to: ReplicaId) {}
 
     /// Whether the answer to this question is awaited.
     fn awaits<R: Wait>(&self, _rt: &R, _question: &Question) -> bool {

@@ -14,6 +14,7 @@ use signed_frames::Out;
 use std::alloc::{AllocError, Global};
 use std::sync::Wait;
 use std::time::Clock;
+use tuning::MOST_QUESTION_BYTES;
 use turns::{Gate, Share, Steps, gather, offer, turn};
 
 /// For which block a step votes, if for one.
@@ -285,6 +286,38 @@ impl<'a, G: Gate, O: Outgoing + Questioned + Recording> Worker<'a, G, O> {
         }
     }
 
+    /// Who asks for a block by a frame, if one does. A question is the shortest of all frames.
+    fn asker_of(&self, bytes: &[u8]) -> Option<ReplicaId> {
+        if bytes.len() > MOST_QUESTION_BYTES {
+            return None;
+        }
+        match read(&self.keyring.config(), bytes) {
+            Ok(Frame::Fetch(question)) => Some(question.sender()),
+            _ => None,
+        }
+    }
+
+    /// Takes a question for a block, unless who asks was given too many of late. What counts is what was taken: so nobody asks
+    /// in another's name.
+    fn take_question<R: Wait + Clock, S: Steps>(
+        &mut self,
+        rt: &R,
+        steps: &mut S,
+        share: &mut Share,
+        number: u64,
+        asker: ReplicaId,
+        bytes: &Bytes,
+    )
+        ensures { HasGrown share.old share.new }
+    {
+        if !self.out.may_supply(rt, asker) {
+            return;
+        }
+        if self.bring(rt, steps, share, number, bytes).is_ok() {
+            self.out.supplied(rt, asker);
+        }
+    }
+
     /// Takes one frame. Where it brings a block, what waited for that block comes next.
     pub(crate) fn take<R: Wait + Clock, S: Steps>(
         &mut self,
@@ -296,6 +329,9 @@ impl<'a, G: Gate, O: Outgoing + Questioned + Recording> Worker<'a, G, O> {
     )
         ensures { HasGrown share.old share.new }
     {
+        if let Some(asker) = self.asker_of(bytes.as_slice()) {
+            return self.take_question(rt, steps, share, number, asker, &bytes);
+        }
         if self.is_out_of_reach(bytes.as_slice())
             || self.is_late(rt, bytes.as_slice())
             || !self.lets_in(rt, &bytes)

@@ -6,6 +6,7 @@ mod beside;
 mod building;
 mod comeback;
 mod doubts;
+mod given;
 mod guarded;
 mod lying;
 mod outside;

@@ -78,6 +78,14 @@ impl<P: Post> Recording for Outside<'_, '_, P> {
         }
     }
 
+    fn may_supply<R: Wait + Clock>(&self, rt: &R, to: ReplicaId) -> bool {
+        self.station.recorder().may_supply(to, self.now(rt))
+    }
+
+    fn supplied<R: Wait + Clock>(&self, rt: &R, to: ReplicaId) {
+        self.station.recorder().supplied(to, self.now(rt));
+    }
+
     fn awaits<R: Wait>(&self, rt: &R, question: &Question) -> bool {
         self.station.comeback().awaits(rt, question)
     }

@@ -1,18 +1,15 @@
 //! What a replica recorded for others.
 
+use crate::given::Given;
 use bytes::Bytes;
-use catching_up::{Question, counted_until};
+use catching_up::Question;
 use fabric::Answer;
 use frame_record::{Announced, Announcements, FrameRecord, Recorded};
 use frames_view::{CoreView, Frame, read};
 use ids::{Config, Digest, Height, ReplicaId};
 use std::alloc::{AllocError, Global};
-use std::sync::atomic::AtomicU64;
-use std::sync::atomic::Ordering::SeqCst;
 use std::sync::{Mutex, Wait};
-use tuning::{
-    ANSWER_BYTES_A_MILLI, ANSWERS_AHEAD_MILLIS, LEAST_ANSWER_MILLIS, MOST_CATCH_UP_BYTES,
-};
+use tuning::{ANSWER_BYTES_A_MILLI, BLOCK_MILLIS, LEAST_ANSWER_MILLIS, MOST_CATCH_UP_BYTES};
 
 /// A number of bytes as what memory is counted in.
 fn size_of(bytes: u64) -> usize {
@@ -32,8 +29,8 @@ pub(crate) struct Recorder {
     config: Config,
     frames: Mutex<FrameRecord>,
     announcements: Mutex<Announcements>,
-    /// Until when what each replica was given is counted, in milliseconds.
-    given: Vec<AtomicU64>,
+    answers: Given,
+    blocks: Given,
 }
 
 impl Recorder {
@@ -43,16 +40,13 @@ impl Recorder {
         config: Config,
         megabytes: u64,
     ) -> Result<Recorder, AllocError> {
-        let mut given = Vec::new(alloc);
-        for _ in 0..config.n() {
-            given.push(AtomicU64::new(0))?;
-        }
         let most = size_of(megabytes.saturating_mul(1 << 20));
         Ok(Recorder {
             config,
             frames: Mutex::new(FrameRecord::new(alloc, most)),
             announcements: Mutex::new(Announcements::new(alloc, config)?),
-            given,
+            answers: Given::none(alloc, config)?,
+            blocks: Given::none(alloc, config)?,
         })
     }
 
@@ -93,15 +87,17 @@ impl Recorder {
 
     /// Whether a replica that asks for so many bytes now gets an answer: it wasn't given too much of late.
     pub(crate) fn may_answer(&self, from: ReplicaId, now: u64, bytes: u64) -> bool {
-        let Some(given) = self.given.get(usize::from(from.0)) else {
-            return false;
-        };
-        let until = given.load(SeqCst);
-        let Some(next) = counted_until(ANSWERS_AHEAD_MILLIS, until, now, cost_of(bytes)) else {
-            return false;
-        };
-        given.store(next, SeqCst);
-        true
+        self.answers.give(from, now, cost_of(bytes))
+    }
+
+    /// Whether a replica that asks for a block now is given it.
+    pub(crate) fn may_supply(&self, to: ReplicaId, now: u64) -> bool {
+        self.blocks.may_give(to, now)
+    }
+
+    /// A replica was given a block.
+    pub(crate) fn supplied(&self, to: ReplicaId, now: u64) {
+        let _counted = self.blocks.give(to, now, BLOCK_MILLIS);
     }
 
     /// The answer to a question, of no more bytes than a correct replica asks for. The bytes of frames are shared.

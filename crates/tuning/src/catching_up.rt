@@ -35,6 +35,13 @@ pub const ANSWER_BYTES_A_MILLI: u64 = 32_768;
 /// Milliseconds that an answer counts for, at least. Fewer: who asks for little without end costs more.
 pub const LEAST_ANSWER_MILLIS: u64 = 2;
 
+/// Milliseconds that a block counts for which a replica asked. Fewer: who asks without end costs more. More than a question's
+/// share of a correct one's pace (`QUESTION_PACE`): that is given fewer than it asks for.
+pub const BLOCK_MILLIS: u64 = 1;
+
 /// Milliseconds that what a replica was given may count ahead. Fewer: who takes much at once waits. More: who asks without end
 /// gets more at once.
-pub const ANSWERS_AHEAD_MILLIS: u64 = 1000;
+pub const GIVEN_AHEAD_MILLIS: u64 = 1000;
+
+/// A frame that asks for a block has no more bytes, and no other frame so few: these are read first.
+pub const MOST_QUESTION_BYTES: usize = 96;
