@@ -12,6 +12,7 @@ from crate_list import CRATES, TOP
 
 PROGRAM = os.path.join(CRATES, "mcbft_main", "out", "mcbft_main")
 OWN_PORTS = range(12000, 32000)     # Linux gives connections that go out ports above
+ONE_ARENA = {"MALLOC_ARENA_MAX": "1"}       # else what a thread frees serves no other
 LISTENS = re.compile(r"^listening on (\S+)$", re.M)
 
 
@@ -134,7 +135,7 @@ class Deployment:
         """Starts a process; what it says goes into a log of its own. Doesn't wait until it listens."""
         with open(self.log_path(log or name), "wb") as said:
             child = subprocess.Popen(self.words(name, more, **instead), stdin=subprocess.DEVNULL, stdout=said,
-                                     stderr=subprocess.STDOUT, start_new_session=True)
+                                     stderr=subprocess.STDOUT, start_new_session=True, env={**os.environ, **ONE_ARENA})
         process = Process(child.pid, Process.began_at(child.pid), child)
         self.processes[log or name] = process
         return process
