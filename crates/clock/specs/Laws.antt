@@ -1,7 +1,7 @@
 -- What the rule is for.
 use Rattle.std.specs.Prelude.{◌≡◌, ℕ, ◌+◌, ◌*◌, ◌-◌, ◌≤◌, ◌⊎◌, ◌==◌, true, not, List, [], ◌∷◌}
 use Rattle.std.specs.Prelude.{if◌then◌else◌}
-use Rattle.tuning.specs.declared.clocks.TheConstants.{LAG_WEIGHT, LEAST_BEAT_MILLIS}
+use Rattle.tuning.specs.declared.clocks.TheConstants.{LAG_WEIGHT, LEAST_BEAT_MILLIS, MOST_SLACK}
 use Rattle.clock.specs.declared.watch.Pulse.{Pulse}
 use Rattle.clock.specs.declared.watch.Watch.{Watch}
 use Rattle.clock.specs.Watching.{climbs, is_due, lags, limit_after, looked, unseen}
@@ -55,3 +55,8 @@ IsGiven = (replicas times : ℕ) (earlier : Looks) (now : ℕ) (p : Pulse)
 -- A proposal may always wait for the least pause before there is a beat on top of it.
 abbrev pub IsPatient : Type 0
 IsPatient = (replicas times : ℕ) (looks : Looks) → LEAST_BEAT_MILLIS ≤ (watched replicas times looks).pause
+
+-- A command may always take as long as usual, and never more than so many times as long.
+abbrev pub IsOwed : Type 0
+IsOwed = (replicas times : ℕ) (looks : Looks)
+    → (1 ≤ (watched replicas times looks).slack) × ((watched replicas times looks).slack ≤ MOST_SLACK)

@@ -1,6 +1,6 @@
 //! What the rules are for. Each law stands as the contract of a function with an empty body.
 
-ghost use Rattle.clock.specs.Laws.{IsEarned, IsGiven, IsPatient};
+ghost use Rattle.clock.specs.Laws.{IsEarned, IsGiven, IsOwed, IsPatient};
 ghost use Rattle.clock.specs.Pruning.{HelpsSlower, KeepsWindow, KeepsWithin};
 
 /// No timeout is due before the replica has lagged in its view for a third of the view's limit, or the view has brought
@@ -17,6 +17,11 @@ pub fn timeouts_are_given()
 /// A proposal may always wait for the least pause before there is a beat on top of it.
 pub fn proposals_may_wait()
     ensures { IsPatient }
+{}
+
+/// A command may always take as long as usual, and never more than so many times as long, however many views ended.
+pub fn commands_are_owed()
+    ensures { IsOwed }
 {}
 
 /// A replica forgets nothing that a slower one needs, as long as that one is no further behind than the most that it keeps.

@@ -330,7 +330,8 @@ impl<'a, G: Gate, O: Outgoing + Questioned + Recording> Worker<'a, G, O> {
         ensures { HasGrown share.old share.new }
     {
         if let Some(asker) = self.asker_of(bytes.as_slice()) {
-            return self.take_question(rt, steps, share, number, asker, &bytes);
+            self.take_question(rt, steps, share, number, asker, &bytes);
+            return;
         }
         if self.is_out_of_reach(bytes.as_slice())
             || self.is_late(rt, bytes.as_slice())

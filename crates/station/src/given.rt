@@ -24,23 +24,24 @@ impl Given {
         Ok(Given { until })
     }
 
-    /// Whether a replica is given something now: it wasn't given too much of late.
-    pub(crate) fn may_give(&self, to: ReplicaId, now: u64) -> bool {
-        match self.until.get(usize::from(to.0)) {
-            Some(until) => counted_until(GIVEN_AHEAD_MILLIS, until.load(SeqCst), now, 0).is_some(),
-            None => false,
-        }
+    /// Until when all that a replica was given is counted, with something now that costs so much; None where it was given too
+    /// much of late.
+    fn until_with(&self, to: ReplicaId, now: u64, cost: u64) -> Option<u64> {
+        let until = self.until.get(usize::from(to.0))?;
+        counted_until(GIVEN_AHEAD_MILLIS, until.load(SeqCst), now, cost)
     }
 
-    /// Whether a replica is given something now that costs so much; then that is counted.
+    /// Whether a replica may be given something now.
+    pub(crate) fn may_give(&self, to: ReplicaId, now: u64) -> bool {
+        self.until_with(to, now, 0).is_some()
+    }
+
+    /// Counts something now that costs so much, unless a replica was given too much of late. Whether it's given that.
     pub(crate) fn give(&self, to: ReplicaId, now: u64, cost: u64) -> bool {
-        let Some(until) = self.until.get(usize::from(to.0)) else {
-            return false;
-        };
-        let Some(next) = counted_until(GIVEN_AHEAD_MILLIS, until.load(SeqCst), now, cost) else {
-            return false;
-        };
-        until.store(next, SeqCst);
-        true
+        let next = self.until_with(to, now, cost);
+        if let (Some(until), Some(next)) = (self.until.get(usize::from(to.0)), next) {
+            until.store(next, SeqCst);
+        }
+        next.is_some()
     }
 }
