@@ -207,11 +207,13 @@ impl Queue {
     }
 
     /// Adds a frame, unless one waits that does all that this one would. Its sender is asked once
-    /// so many parcels were done. Where the list is full the oldest goes.
+    /// so many parcels were done. Where the list is full the oldest goes; and one of the same number, which all of the
+    /// replica's own have.
     pub(crate) fn add(&mut self, mut frame: Waiting, due: u64) {
         if self.has_one_like(&frame) {
             return;
         }
+        let _same = self.take_number(frame.number);
         self.make_room();
         frame.due = due;
         frame.bottom = self.first_missing(&frame.lacks);
