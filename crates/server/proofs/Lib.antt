@@ -1,3 +1,2 @@
 mod Filling
 mod Lending
-mod Others
