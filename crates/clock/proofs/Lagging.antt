@@ -7,7 +7,7 @@ use Rattle.std.proofs.Math.Nat.{min-le_left, min-le_right, min-eq_left, min-eq_r
 use Rattle.clock.specs.declared.watch.Pulse.{Pulse}
 use Rattle.clock.specs.declared.watch.Watch.{Watch}
 use Rattle.clock.specs.Watching.{is_calm, is_due, is_overdue, lags, limit_after, moved, slack_after, slow_after}
-use Rattle.clock.specs.Laws.{Looks, watched, lagged, lagged_on, IsEarned, IsGiven, IsOwed, IsPatient}
+use Rattle.clock.specs.Laws.{Looks, watched, lagged, lagged_on, IsEarned, IsGiven, IsOwed, IsPatient, IsSlack}
 
 -- three times the time is as much as the count, at most
 slow-most : (w : Watch) (now : ℕ) (p : Pulse) (k : ℕ) → w.slow ≤ 3 * k
@@ -127,13 +127,12 @@ is-patient replicas times (x ∷ earlier) =
     (λ t. omega (arith, old)) (λ t. old))
 
 -- one look more keeps it within the least and the most
-slack-within : (w : Watch) (now : ℕ) (p : Pulse) → (1 ≤ w.slack) × (w.slack ≤ 8)
-    → (1 ≤ slack_after w now p) × (slack_after w now p ≤ 8)
+slack-within : (w : Watch) (now : ℕ) (p : Pulse) → IsSlack w.slack → IsSlack (slack_after w now p)
 slack-within w now p h =
-    cond_both (p.view == w.view) _ _ (λ (n : ℕ). (1 ≤ n) × (n ≤ 8))
-    (λ t. cond_both (is_calm w now) _ _ (λ (n : ℕ). (1 ≤ n) × (n ≤ 8))
+    cond_both (p.view == w.view) _ _ IsSlack
+    (λ t. cond_both (is_calm w now) _ _ IsSlack
     (λ c. (omega (arith, h.0, h.1), omega (arith, h.0, h.1))) (λ c. h))
-    (λ f. cond_both w.served _ _ (λ (n : ℕ). (1 ≤ n) × (n ≤ 8))
+    (λ f. cond_both w.served _ _ IsSlack
     (λ c. (omega (arith, h.0, h.1), omega (arith, h.0, h.1))) (λ c. h))
 
 pub is-owed : IsOwed

@@ -56,7 +56,10 @@ IsGiven = (replicas times : ℕ) (earlier : Looks) (now : ℕ) (p : Pulse)
 abbrev pub IsPatient : Type 0
 IsPatient = (replicas times : ℕ) (looks : Looks) → LEAST_BEAT_MILLIS ≤ (watched replicas times looks).pause
 
+-- so many times as long as usual: at least as long, and no more than the most
+abbrev pub IsSlack : ℕ → Type 0
+IsSlack times = (1 ≤ times) × (times ≤ MOST_SLACK)
+
 -- A command may always take as long as usual, and never more than so many times as long.
 abbrev pub IsOwed : Type 0
-IsOwed = (replicas times : ℕ) (looks : Looks)
-    → (1 ≤ (watched replicas times looks).slack) × ((watched replicas times looks).slack ≤ MOST_SLACK)
+IsOwed = (replicas times : ℕ) (looks : Looks) → IsSlack (watched replicas times looks).slack
