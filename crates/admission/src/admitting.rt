@@ -15,7 +15,7 @@ use authenticators::VerifyingKeyring;
 use certificates::{
     check_block, check_fetch, check_new_view, check_proposal, check_request, check_vote,
 };
-use frames_view::{Frame, read};
+use frames_view::{Frame, ReadFrame, read};
 use ids::Fault;
 
 /// The input that a frame brings, which was read from these bytes.
@@ -52,4 +52,17 @@ pub fn admit<'a>(keyring: &'a VerifyingKeyring, bytes: &'a [u8]) -> Result<Input
 {
     let frame = read(&keyring.config(), bytes)?;
     check(keyring, frame, bytes)
+}
+
+/// The input that a frame which was read brings to the keyring's replica: as `admit` of its bytes.
+#[tactic(auto, using(crate::proofs::Checks::addressed))]
+pub fn admit_read<'a>(
+    keyring: &'a VerifyingKeyring,
+    read: &ReadFrame<'a>,
+) -> Result<Input<'a>, Fault>
+    ensures admitted { Admits keyring.now read.now.bytes result }
+    ensures addressed { IfOk result (λ input. IsTrue (is_addressed keyring.now input)) }
+{
+    let frame = read.at(&keyring.config())?;
+    check(keyring, frame, read.bytes())
 }

@@ -13,7 +13,7 @@ ghost use Rattle.admission.specs.Admitted.{AdmitsBy, Answers};
 use crate::input::Input;
 use authenticators::VerifyingKeyring;
 use certificates::check_tag;
-use frames_view::{Frame, read};
+use frames_view::{Frame, ReadFrame, read};
 use ids::Fault;
 
 /// The input that an offered frame brings, which was read from these bytes.
@@ -49,4 +49,17 @@ pub fn admit_offer<'a>(keyring: &'a VerifyingKeyring, bytes: &'a [u8]) -> Result
 {
     let frame = read(&keyring.config(), bytes)?;
     check_read(keyring, frame, bytes)
+}
+
+/// The input that a frame which was read brings where it is offered: as `admit_offer` of its bytes.
+#[tactic(auto, using(crate::proofs::Checks::addressed))]
+pub fn admit_offer_read<'a>(
+    keyring: &'a VerifyingKeyring,
+    read: &ReadFrame<'a>,
+) -> Result<Input<'a>, Fault>
+    ensures admitted { AdmitsBy check_offer keyring.now read.now.bytes result }
+    ensures addressed { IfOk result (λ input. IsTrue (is_addressed keyring.now input)) }
+{
+    let frame = read.at(&keyring.config())?;
+    check_read(keyring, frame, read.bytes())
 }

@@ -2,13 +2,14 @@
 
 ghost use Rattle.fabric.specs.Shares.{HasGrown};
 
+use crate::arrived::Arrived;
 use crate::parcel::Answer;
 use crate::questioned::Questioned;
 use crate::recording::Recording;
-use crate::waiting::Waiting;
 use crate::worker::{OWN, Outgoing, Worker};
+use admission::missing_of;
 use bytes::Bytes;
-use frames_view::{Frame, read};
+use frames_view::Frame;
 use ids::{Fault, Height, ReplicaId};
 use std::sync::Wait;
 use std::time::Clock;
@@ -18,14 +19,14 @@ impl<'a, G: Gate, O: Outgoing + Questioned + Recording> Worker<'a, G, O> {
     /// Whether a frame is of no use to a replica that is far behind, so that it may get lost, as on any network: a block so
     /// high that what it stands on won't come soon; a request, which others answer before; or an announcement. It comes to the
     /// others' view once it has their blocks.
-    pub(crate) fn is_out_of_reach(&self, bytes: &[u8]) -> bool {
+    pub(crate) fn is_out_of_reach(&self, arrived: &Arrived<'_>) -> bool {
         let Some(reach) = self.out.reach() else {
             return false;
         };
-        match read(&self.keyring.config(), bytes) {
-            Ok(Frame::Proposal(proposal)) => proposal.core().height().0 > reach.0,
-            Ok(Frame::Block(block)) => block.core().height().0 > reach.0,
-            Ok(Frame::NewView(_) | Frame::Request(_)) => true,
+        match arrived.frame() {
+            Frame::Proposal(proposal) => proposal.core().height().0 > reach.0,
+            Frame::Block(block) => block.core().height().0 > reach.0,
+            Frame::NewView(_) | Frame::Request(_) => true,
             _ => false,
         }
     }
@@ -70,12 +71,16 @@ impl<'a, G: Gate, O: Outgoing + Questioned + Recording> Worker<'a, G, O> {
     ) -> bool
         ensures { HasGrown share.old share.new }
     {
+        let config = self.keyring.config();
         let mut is_one_out = false;
-        for bytes in frames {
-            match self.bring_recorded(rt, steps, share, &bytes) {
+        for bytes in &frames {
+            let Some(arrived) = Arrived::new(&config, OWN, bytes) else {
+                continue;
+            };
+            match self.bring_recorded(rt, steps, share, &arrived) {
                 Err(Fault::UnknownParent) => {
                     if is_one_out {
-                        self.need_parent(rt, giver, bytes);
+                        self.need_parent(rt, giver, &arrived);
                     }
                     return false;
                 }
@@ -92,19 +97,19 @@ impl<'a, G: Gate, O: Outgoing + Questioned + Recording> Worker<'a, G, O> {
         rt: &R,
         steps: &mut S,
         share: &mut Share,
-        bytes: &Bytes,
+        arrived: &Arrived<'_>,
     ) -> Result<(), Fault>
         ensures { HasGrown share.old share.new }
     {
-        self.bring(rt, steps, share, OWN, bytes)?;
-        self.taken(rt, steps, share, bytes);
+        self.bring(rt, steps, share, arrived)?;
+        self.taken(rt, steps, share, arrived);
         Ok(())
     }
 
     /// All are asked for the block that a frame lacks, on the account of who gave the frame.
-    fn need_parent<R: Wait + Clock>(&self, rt: &R, giver: ReplicaId, bytes: Bytes) {
-        if let Some(frame) = Waiting::new(&self.keyring.config(), OWN, bytes) {
-            self.out.need(rt, frame.lacks, giver);
+    fn need_parent<R: Wait + Clock>(&self, rt: &R, giver: ReplicaId, arrived: &Arrived<'_>) {
+        if let Some((_sender, lacks)) = missing_of(&arrived.frame.read) {
+            self.out.need(rt, lacks, giver);
         }
     }
 
@@ -118,10 +123,26 @@ impl<'a, G: Gate, O: Outgoing + Questioned + Recording> Worker<'a, G, O> {
     )
         ensures { HasGrown share.old share.new }
     {
-        for bytes in announced {
-            if self.bring(rt, steps, share, OWN, &bytes) == Err(Fault::UnknownParent) {
-                let _seen = self.offer_once(rt, steps, share, &bytes);
+        let config = self.keyring.config();
+        for bytes in &announced {
+            if let Some(arrived) = Arrived::new(&config, OWN, bytes) {
+                self.take_announcement(rt, steps, share, &arrived);
             }
+        }
+    }
+
+    /// Takes an announcement.
+    fn take_announcement<R: Wait + Clock, S: Steps>(
+        &mut self,
+        rt: &R,
+        steps: &mut S,
+        share: &mut Share,
+        arrived: &Arrived<'_>,
+    )
+        ensures { HasGrown share.old share.new }
+    {
+        if self.bring(rt, steps, share, arrived) == Err(Fault::UnknownParent) {
+            let _seen = self.offer_once(rt, steps, share, arrived);
         }
     }
 }

@@ -2,6 +2,7 @@
 //! frames to replicas.
 #![tactic(auto)]
 
+mod arrived;
 mod catching;
 mod client_end;
 mod client_links;

@@ -2,6 +2,7 @@
 
 use bytes::Bytes;
 use catching_up::Question;
+use frames_view::Frame;
 use ids::{Digest, Height, ReplicaId};
 use std::alloc::Global;
 use std::sync::Wait;
@@ -10,8 +11,14 @@ use std::time::Clock;
 /// Where it is kept what a replica took and gave, and what it asks others for where it fell behind. Who keeps nothing answers
 /// nobody, and never asks.
 pub trait Recording {
-    /// A frame was taken. The replica voted for the block that it brings, where this is one.
-    fn record<R: Wait>(&self, _rt: &R, _bytes: &Bytes, _voted: Option<Digest>) {}
+    /// A frame of these bytes was taken. The replica voted for the block that it brings, where this is one.
+    fn record<R: Wait>(
+        &self,
+        _rt: &R,
+        _frame: &Frame<'_>,
+        _bytes: &Bytes,
+        _voted: Option<Digest>,
+    ) {}
 
     /// Where the replica is far behind: up to which height frames are of use to it. None where it isn't.
     fn reach(&self) -> Option<Height> {

@@ -2,19 +2,20 @@
 
 ghost use Rattle.fabric.specs.Shares.{HasGrown};
 
+use crate::arrived::Arrived;
 use crate::questioned::Questioned;
 use crate::recording::Recording;
 use crate::unfounded::Unfounded;
 use crate::waiting::{Carried, Waiting};
 use crate::worker::{Outgoing, Worker};
+use admission::missing_of;
 use bytes::Bytes;
 use frames_view::{Frame, read};
-use ids::{Config, Digest, Fault, Kind, ReplicaId, View};
+use ids::{Config, Digest, Fault, Kind, ReplicaId};
 use signed_frames::Out;
 use std::alloc::{AllocError, Global};
 use std::sync::Wait;
 use std::time::Clock;
-use tuning::MOST_QUESTION_BYTES;
 use turns::{Gate, Share, Steps, gather, offer, turn};
 
 /// For which block a step votes, if for one.
@@ -45,23 +46,32 @@ impl<'a, G: Gate, O: Outgoing + Questioned + Recording> Worker<'a, G, O> {
         rt: &R,
         steps: &mut S,
         share: &mut Share,
+        arrived: &Arrived<'_>,
+    ) -> Result<(), Fault>
+        ensures { HasGrown share.old share.new }
+    {
+        let keyring = self.keyring.verifying();
+        let answer = turn(rt, steps, share, self.gate, keyring, &arrived.frame);
+        match answer {
+            Err(Fault::BadTag) => self.offer(rt, steps, share, arrived),
+            answer => self.finish(rt, arrived, answer),
+        }
+    }
+
+    /// The turn of the frame that these bytes are.
+    pub(crate) fn bring_bytes<R: Wait + Clock, S: Steps>(
+        &mut self,
+        rt: &R,
+        steps: &mut S,
+        share: &mut Share,
         number: u64,
         bytes: &Bytes,
     ) -> Result<(), Fault>
         ensures { HasGrown share.old share.new }
     {
-        let answer = turn(
-            rt,
-            steps,
-            share,
-            self.gate,
-            number,
-            self.keyring.verifying(),
-            bytes.as_slice(),
-        );
-        match answer {
-            Err(Fault::BadTag) => self.offer(rt, steps, share, number, bytes),
-            answer => self.finish(rt, bytes, answer),
+        match Arrived::new(&self.keyring.config(), number, bytes) {
+            Some(arrived) => self.bring(rt, steps, share, &arrived),
+            None => Err(Fault::NotAFrame),
         }
     }
 
@@ -69,13 +79,13 @@ impl<'a, G: Gate, O: Outgoing + Questioned + Recording> Worker<'a, G, O> {
     fn finish<R: Wait>(
         &mut self,
         rt: &R,
-        bytes: &Bytes,
+        arrived: &Arrived<'_>,
         answer: Result<Out, Fault>,
     ) -> Result<(), Fault> {
         let out = answer?;
         let voted = voted_for(&self.keyring.config(), &out);
         self.send_all(rt, out);
-        self.out.record(rt, bytes, voted);
+        self.out.record(rt, arrived.frame(), arrived.bytes, voted);
         Ok(())
     }
 
@@ -85,21 +95,13 @@ impl<'a, G: Gate, O: Outgoing + Questioned + Recording> Worker<'a, G, O> {
         rt: &R,
         steps: &mut S,
         share: &mut Share,
-        bytes: &Bytes,
+        arrived: &Arrived<'_>,
     ) -> Option<Result<(), Fault>>
         ensures { HasGrown share.old share.new }
     {
         let keyring = self.keyring.verifying();
-        let answer = offer(rt, steps, share, keyring, bytes.as_slice())?;
-        Some(self.finish(rt, bytes, answer))
-    }
-
-    /// The view of a frame, if it is a proposal.
-    fn proposed_in(&self, bytes: &[u8]) -> Option<View> {
-        match read(&self.keyring.config(), bytes) {
-            Ok(Frame::Proposal(proposal)) => Some(proposal.view()),
-            _ => None,
-        }
+        let answer = offer(rt, steps, share, keyring, &arrived.frame.read)?;
+        Some(self.finish(rt, arrived, answer))
     }
 
     /// Offers a frame that was refused with `BadTag`: its own tag may be right, and only its certificate not good for this
@@ -109,29 +111,22 @@ impl<'a, G: Gate, O: Outgoing + Questioned + Recording> Worker<'a, G, O> {
         rt: &R,
         steps: &mut S,
         share: &mut Share,
-        number: u64,
-        bytes: &Bytes,
+        arrived: &Arrived<'_>,
     ) -> Result<(), Fault>
         ensures { HasGrown share.old share.new }
     {
         let tried_at = self.room.news();
-        let Some(brought) = self.offer_once(rt, steps, share, bytes) else {
+        let Some(brought) = self.offer_once(rt, steps, share, arrived) else {
             return Err(Fault::BadTag);
         };
-        if self.proposed_in(bytes.as_slice()) == Some(self.out.view()) {
+        if arrived.proposed_in() == Some(self.out.view()) {
             let keyring = self.keyring.verifying();
-            self.out.doubted(rt, keyring, bytes.as_slice());
+            self.out.doubted(rt, keyring, arrived.bytes.as_slice());
         }
         if brought != Err(Fault::BadTag) {
             return brought;
         }
-        let bytes = bytes.clone()?;
-        let frame = Unfounded {
-            number,
-            bytes,
-            tried_at,
-        };
-        self.seek_grounds(rt, steps, share, frame)
+        self.seek_grounds(rt, steps, share, arrived, tried_at)
     }
 
     /// A frame brings a block without grounds. A proposal waits for some, and all are asked for its block. A block that was
@@ -141,24 +136,30 @@ impl<'a, G: Gate, O: Outgoing + Questioned + Recording> Worker<'a, G, O> {
         rt: &R,
         steps: &mut S,
         share: &mut Share,
-        frame: Unfounded,
+        arrived: &Arrived<'_>,
+        tried_at: u64,
     ) -> Result<(), Fault>
         ensures { HasGrown share.old share.new }
     {
-        let Some((carried, sender)) = Carried::from(&self.keyring.config(), frame.bytes.as_slice())
-        else {
+        let Some((sender, _lacks)) = missing_of(&arrived.frame.read) else {
             return Err(Fault::BadTag);
         };
-        match carried {
+        let bytes = arrived.bytes.clone()?;
+        match arrived.carried() {
             Carried::Proposal(block) => {
                 self.out.need(rt, block, sender);
-                self.room.wait_for_grounds(rt, frame);
+                let number = arrived.frame.number;
+                self.room.wait_for_grounds(
+                    rt,
+                    Unfounded {
+                        number,
+                        bytes,
+                        tried_at,
+                    },
+                );
                 Err(Fault::BadTag)
             }
-            Carried::Block(block) => match self
-                .out
-                .keep(rt, self.alloc, &block, sender, frame.bytes)
-            {
+            Carried::Block(block) => match self.out.keep(rt, self.alloc, &block, sender, bytes) {
                 Some(copies) => self.gather(rt, steps, share, copies),
                 None => Err(Fault::BadTag),
             },
@@ -205,7 +206,7 @@ impl<'a, G: Gate, O: Outgoing + Questioned + Recording> Worker<'a, G, O> {
             if known.push(block).is_err() {
                 self.room.lose_for(rt, &block);
             }
-            let brought = self.bring(rt, steps, share, frame.number, &frame.bytes);
+            let brought = self.bring_bytes(rt, steps, share, frame.number, &frame.bytes);
             if brought.is_ok() {
                 latest = frame.brings.block();
                 self.has_taken(rt, latest.as_ref());
@@ -234,15 +235,11 @@ impl<'a, G: Gate, O: Outgoing + Questioned + Recording> Worker<'a, G, O> {
         rt: &R,
         steps: &mut S,
         share: &mut Share,
-        number: u64,
-        bytes: Bytes,
+        arrived: &Arrived<'_>,
     )
         ensures { HasGrown share.old share.new }
     {
-        let Ok(copy) = bytes.clone() else {
-            return;
-        };
-        let Some(frame) = Waiting::new(&self.keyring.config(), number, copy) else {
+        let Some(frame) = Waiting::new(arrived) else {
             return;
         };
         let brings = frame.brings.block();
@@ -250,18 +247,18 @@ impl<'a, G: Gate, O: Outgoing + Questioned + Recording> Worker<'a, G, O> {
             Some(block) => self.ask_below(rt, block, frame.lacks, frame.sender),
             // Of an announcement the view counts at once.
             None => {
-                let _seen = self.offer_once(rt, steps, share, &bytes);
+                let _seen = self.offer_once(rt, steps, share, arrived);
             }
         }
         self.room.wait(rt, frame);
         if !self.room.is_shared() {
             return;
         }
-        let brought = self.bring(rt, steps, share, number, &bytes);
+        let brought = self.bring(rt, steps, share, arrived);
         if brought == Err(Fault::UnknownParent) {
             return;
         }
-        let _copy = self.room.take_number(rt, number);
+        let _copy = self.room.take_number(rt, arrived.frame.number);
         if let (Ok(()), Some(block)) = (brought, brings) {
             self.release(rt, steps, share, block);
         }
@@ -271,29 +268,18 @@ impl<'a, G: Gate, O: Outgoing + Questioned + Recording> Worker<'a, G, O> {
     /// proposal has. A step would write it down and change nothing else, and so it may get lost, as on any network.
     /// Of each block's votes all but a quorum are such. In trouble a vote for a block below the newest is lost, too, and at
     /// any time one of a replica that is passed over: it may be right for this one alone.
-    fn is_late<R: Wait>(&self, rt: &R, bytes: &[u8]) -> bool {
+    fn is_late<R: Wait>(&self, rt: &R, arrived: &Arrived<'_>) -> bool {
         if self.blocks.is_empty() {
             return false;
         }
-        match read(&self.keyring.config(), bytes) {
-            Ok(Frame::Vote(vote)) => {
+        match arrived.frame() {
+            Frame::Vote(vote) => {
                 let block = Digest(*vote.digest());
                 self.blocks.is_certified(&block)
                     || (self.out.in_trouble() && self.blocks.is_below(&block))
                     || self.out.passes_over(rt, vote.vote().voter())
             }
             _ => false,
-        }
-    }
-
-    /// Who asks for a block by a frame, if one does. A question is the shortest of all frames.
-    fn asker_of(&self, bytes: &[u8]) -> Option<ReplicaId> {
-        if bytes.len() > MOST_QUESTION_BYTES {
-            return None;
-        }
-        match read(&self.keyring.config(), bytes) {
-            Ok(Frame::Fetch(question)) => Some(question.sender()),
-            _ => None,
         }
     }
 
@@ -304,44 +290,58 @@ impl<'a, G: Gate, O: Outgoing + Questioned + Recording> Worker<'a, G, O> {
         rt: &R,
         steps: &mut S,
         share: &mut Share,
-        number: u64,
         asker: ReplicaId,
-        bytes: &Bytes,
+        arrived: &Arrived<'_>,
     )
         ensures { HasGrown share.old share.new }
     {
         if !self.out.may_supply(rt, asker) {
             return;
         }
-        if self.bring(rt, steps, share, number, bytes).is_ok() {
+        if self.bring(rt, steps, share, arrived).is_ok() {
             self.out.supplied(rt, asker);
         }
     }
 
-    /// Takes one frame. Where it brings a block, what waited for that block comes next.
+    /// Takes one frame. What is none gets lost.
     pub(crate) fn take<R: Wait + Clock, S: Steps>(
         &mut self,
         rt: &R,
         steps: &mut S,
         share: &mut Share,
         number: u64,
-        bytes: Bytes,
+        bytes: &Bytes,
     )
         ensures { HasGrown share.old share.new }
     {
-        if let Some(asker) = self.asker_of(bytes.as_slice()) {
-            self.take_question(rt, steps, share, number, asker, &bytes);
+        if let Some(arrived) = Arrived::new(&self.keyring.config(), number, bytes) {
+            self.take_read(rt, steps, share, &arrived);
+        }
+    }
+
+    /// Takes a frame that was read. Where it brings a block, what waited for that block comes next.
+    fn take_read<R: Wait + Clock, S: Steps>(
+        &mut self,
+        rt: &R,
+        steps: &mut S,
+        share: &mut Share,
+        arrived: &Arrived<'_>,
+    )
+        ensures { HasGrown share.old share.new }
+    {
+        if let Some(asker) = arrived.asker() {
+            self.take_question(rt, steps, share, asker, arrived);
             return;
         }
-        if self.is_out_of_reach(bytes.as_slice())
-            || self.is_late(rt, bytes.as_slice())
-            || !self.lets_in(rt, &bytes)
+        if self.is_out_of_reach(arrived)
+            || self.is_late(rt, arrived)
+            || !self.lets_in(rt, arrived)
         {
             return;
         }
-        match self.bring(rt, steps, share, number, &bytes) {
-            Ok(()) => self.taken(rt, steps, share, &bytes),
-            Err(Fault::UnknownParent) => self.take_later(rt, steps, share, number, bytes),
+        match self.bring(rt, steps, share, arrived) {
+            Ok(()) => self.taken(rt, steps, share, arrived),
+            Err(Fault::UnknownParent) => self.take_later(rt, steps, share, arrived),
             Err(_) => {}
         }
     }
@@ -352,16 +352,16 @@ impl<'a, G: Gate, O: Outgoing + Questioned + Recording> Worker<'a, G, O> {
         rt: &R,
         steps: &mut S,
         share: &mut Share,
-        bytes: &Bytes,
+        arrived: &Arrived<'_>,
     )
         ensures { HasGrown share.old share.new }
     {
-        self.keep_request(rt, bytes);
+        self.keep_request(rt, arrived);
         if self.room.is_empty() && !self.asks() {
             self.room.has_news();
             return;
         }
-        let block = Carried::by(&self.keyring.config(), bytes.as_slice()).block();
+        let block = arrived.carried().block();
         self.has_taken(rt, block.as_ref());
         if let Some(block) = block {
             self.release(rt, steps, share, block);
@@ -377,11 +377,30 @@ impl<'a, G: Gate, O: Outgoing + Questioned + Recording> Worker<'a, G, O> {
     }
 
     /// Whether a frame is a proposal of an earlier view than the replica's: it finds no vote any more.
-    fn is_past(&self, bytes: &[u8]) -> bool {
-        match self.proposed_in(bytes) {
+    fn is_past(&self, arrived: &Arrived<'_>) -> bool {
+        match arrived.proposed_in() {
             Some(view) => view.0 < self.out.view().0,
             None => false,
         }
+    }
+
+    /// Offers a proposal once more that lacked grounds. Whether it waits on.
+    fn offer_again<R: Wait + Clock, S: Steps>(
+        &mut self,
+        rt: &R,
+        steps: &mut S,
+        share: &mut Share,
+        arrived: &Arrived<'_>,
+    ) -> bool
+        ensures { HasGrown share.old share.new }
+    {
+        match self.offer_once(rt, steps, share, arrived) {
+            Some(Ok(())) => self.taken(rt, steps, share, arrived),
+            Some(Err(Fault::UnknownParent)) => self.take_later(rt, steps, share, arrived),
+            Some(Err(Fault::BadTag)) => return !self.is_past(arrived),
+            _ => {}
+        }
+        false
     }
 
     /// A proposal that lacked grounds is offered once more, where something came since that may give it some.
@@ -397,18 +416,17 @@ impl<'a, G: Gate, O: Outgoing + Questioned + Recording> Worker<'a, G, O> {
         let Some(Unfounded { number, bytes, .. }) = self.room.next_unfounded(rt) else {
             return;
         };
-        match self.offer_once(rt, steps, share, &bytes) {
-            Some(Ok(())) => self.taken(rt, steps, share, &bytes),
-            Some(Err(Fault::UnknownParent)) => self.take_later(rt, steps, share, number, bytes),
-            Some(Err(Fault::BadTag)) if !self.is_past(bytes.as_slice()) => {
-                let frame = Unfounded {
-                    number,
-                    bytes,
-                    tried_at,
-                };
-                self.room.wait_for_grounds(rt, frame);
-            }
-            _ => {}
+        let waits_on = match Arrived::new(&self.keyring.config(), number, &bytes) {
+            Some(arrived) => self.offer_again(rt, steps, share, &arrived),
+            None => false,
+        };
+        if waits_on {
+            let frame = Unfounded {
+                number,
+                bytes,
+                tried_at,
+            };
+            self.room.wait_for_grounds(rt, frame);
         }
     }
 }

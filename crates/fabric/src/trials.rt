@@ -2,41 +2,30 @@
 
 ghost use Rattle.fabric.specs.Shares.{HasGrown};
 
-use crate::links::is_request;
+use crate::arrived::Arrived;
 use crate::parcel::Base;
 use crate::questioned::Questioned;
 use crate::recording::Recording;
 use crate::requests::{Again, Entry};
 use crate::worker::{OWN, Outgoing, Worker};
-use admission::{Input, admit};
+use admission::{Input, admit_read};
 use bytes::Bytes;
 use frames_view::{Frame, read};
-use ids::{ClientId, Config, Digest, Kind, ReplicaId, Seq};
+use ids::{ClientId, Digest, Kind, ReplicaId};
 use signed_frames::Sending;
 use std::sync::Wait;
 use std::time::Clock;
 use turns::{Gate, Share, Steps};
 
-/// Whose request a frame is, and its number, if it is one.
-fn request_of(config: &Config, bytes: &Bytes) -> Option<(ClientId, Seq)> {
-    if !is_request(bytes.as_slice()) {
-        return None;
-    }
-    match read(config, bytes.as_slice()) {
-        Ok(Frame::Request(command)) => Some((command.client(), command.seq())),
-        _ => None,
-    }
-}
-
 impl<'a, G: Gate, O: Outgoing + Questioned + Recording> Worker<'a, G, O> {
     /// Keeps a frame that is a request. Who asked for it before it came has an answer.
-    pub(crate) fn keep_request<R: Wait>(&self, rt: &R, bytes: &Bytes) {
-        let Some((client, seq)) = request_of(&self.keyring.config(), bytes) else {
+    pub(crate) fn keep_request<R: Wait>(&self, rt: &R, arrived: &Arrived<'_>) {
+        let Some((client, seq)) = arrived.request() else {
             return;
         };
-        self.room.keep_request(rt, client, seq, bytes);
+        self.room.keep_request(rt, client, seq, arrived.bytes);
         if self.room.has_questions() {
-            self.answer_all(rt, client, bytes);
+            self.answer_all(rt, client, arrived.bytes);
         }
     }
 
@@ -69,27 +58,56 @@ impl<'a, G: Gate, O: Outgoing + Questioned + Recording> Worker<'a, G, O> {
     )
         ensures { HasGrown share.old share.new }
     {
-        let Some((client, _seq)) = request_of(&self.keyring.config(), &bytes) else {
+        if self.out.leads() {
+            self.hear_voucher(rt, steps, share, from, &bytes);
+            return;
+        }
+        let Some(client) = self.client_of(&bytes) else {
             return;
         };
-        if self.out.leads() {
-            let now = self.out.millis(rt);
-            if self.room.vouch(rt, client, from, &bytes, now) {
-                let _answer = self.bring(rt, steps, share, OWN, &bytes);
-            }
-        } else if self.room.has_request(rt, client, &bytes) {
+        if self.room.has_request(rt, client, &bytes) {
             self.pass_on(rt, Some(from), &bytes);
         } else {
             self.room.wait_for_request(rt, client, from, bytes);
         }
     }
 
-    /// What is to be done with a request now.
-    fn entry<R: Wait + Clock>(&self, rt: &R, bytes: &Bytes) -> Entry {
-        match request_of(&self.keyring.config(), bytes) {
+    /// Whose request these bytes are, if they are one.
+    fn client_of(&self, bytes: &Bytes) -> Option<ClientId> {
+        let arrived = Arrived::new(&self.keyring.config(), OWN, bytes)?;
+        let (client, _seq) = arrived.request()?;
+        Some(client)
+    }
+
+    /// Another replica vouches for a request to a leader, which lets it in once enough do.
+    fn hear_voucher<R: Wait + Clock, S: Steps>(
+        &mut self,
+        rt: &R,
+        steps: &mut S,
+        share: &mut Share,
+        from: ReplicaId,
+        bytes: &Bytes,
+    )
+        ensures { HasGrown share.old share.new }
+    {
+        let Some(arrived) = Arrived::new(&self.keyring.config(), OWN, bytes) else {
+            return;
+        };
+        let Some((client, _seq)) = arrived.request() else {
+            return;
+        };
+        let now = self.out.millis(rt);
+        if self.room.vouch(rt, client, from, bytes, now) {
+            let _answer = self.bring(rt, steps, share, &arrived);
+        }
+    }
+
+    /// What is to be done with a frame now.
+    fn entry<R: Wait + Clock>(&self, rt: &R, arrived: &Arrived<'_>) -> Entry {
+        match arrived.request() {
             Some((client, _seq)) => {
                 let (leads, now) = (self.out.leads(), self.out.millis(rt));
-                self.room.entry(rt, client, bytes, leads, now)
+                self.room.entry(rt, client, arrived.bytes, leads, now)
             }
             None => Entry::LetIn,
         }
@@ -97,18 +115,18 @@ impl<'a, G: Gate, O: Outgoing + Questioned + Recording> Worker<'a, G, O> {
 
     /// Whether a frame is let in. A request that isn't is kept, where its tag is right, and if need be others are asked for
     /// it.
-    pub(crate) fn lets_in<R: Wait + Clock>(&self, rt: &R, bytes: &Bytes) -> bool {
+    pub(crate) fn lets_in<R: Wait + Clock>(&self, rt: &R, arrived: &Arrived<'_>) -> bool {
         if !self.room.is_wary() {
             return true;
         }
-        let entry = self.entry(rt, bytes);
+        let entry = self.entry(rt, arrived);
         if entry == Entry::LetIn {
             return true;
         }
-        if admit(self.keyring.verifying(), bytes.as_slice()).is_ok() {
-            self.keep_request(rt, bytes);
+        if admit_read(self.keyring.verifying(), &arrived.frame.read).is_ok() {
+            self.keep_request(rt, arrived);
             if entry == Entry::AskedFor {
-                self.pass_on(rt, None, bytes);
+                self.pass_on(rt, None, arrived.bytes);
             }
         }
         false
@@ -171,7 +189,7 @@ impl<'a, G: Gate, O: Outgoing + Questioned + Recording> Worker<'a, G, O> {
             let Some(bytes) = self.own.take() else {
                 break;
             };
-            self.take(rt, steps, share, OWN, bytes);
+            self.take(rt, steps, share, OWN, &bytes);
         }
     }
 
@@ -203,7 +221,7 @@ impl<'a, G: Gate, O: Outgoing + Questioned + Recording> Worker<'a, G, O> {
         ensures { HasGrown share.old share.new }
     {
         for bytes in frames {
-            let _answer = self.bring(rt, steps, share, OWN, &bytes);
+            let _answer = self.bring_bytes(rt, steps, share, OWN, &bytes);
         }
     }
 
@@ -239,7 +257,7 @@ impl<'a, G: Gate, O: Outgoing + Questioned + Recording> Worker<'a, G, O> {
         ensures { HasGrown share.old share.new }
     {
         if let Some(bytes) = self.room.next_trial(rt, now) {
-            let _answer = self.bring(rt, steps, share, OWN, &bytes);
+            let _answer = self.bring_bytes(rt, steps, share, OWN, &bytes);
             self.room.wait_for_trial(rt);
         }
     }

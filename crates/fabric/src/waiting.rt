@@ -1,11 +1,12 @@
 //! Frames that wait for a block.
 
+use crate::arrived::Arrived;
 use crate::queue::{Question, Queue};
 use crate::requests::{Again, Entry, Requests};
 use crate::unfounded::{Unfounded, UnfoundedList};
 use admission::missing_of;
 use bytes::Bytes;
-use frames_view::{Frame, read};
+use frames_view::Frame;
 use ids::{ClientId, Config, Digest, ReplicaId, Seq};
 use std::alloc::Global;
 use std::sync::atomic::Ordering::SeqCst;
@@ -28,27 +29,12 @@ pub(crate) enum Carried {
 
 impl Carried {
     /// What a frame carries.
-    fn of(frame: &Frame<'_>) -> Carried {
+    pub(crate) fn of(frame: &Frame<'_>) -> Carried {
         match frame {
             Frame::Proposal(view) => Carried::Proposal(view.core().digest()),
             Frame::Block(view) => Carried::Block(view.core().digest()),
             _ => Carried::Nothing,
         }
-    }
-
-    /// What the frame of these bytes carries.
-    pub(crate) fn by(config: &Config, bytes: &[u8]) -> Carried {
-        match read(config, bytes) {
-            Ok(frame) => Carried::of(&frame),
-            Err(_) => Carried::Nothing,
-        }
-    }
-
-    /// What the frame of these bytes carries, and who sent it. None, where frames of this kind bring no block.
-    pub(crate) fn from(config: &Config, bytes: &[u8]) -> Option<(Carried, ReplicaId)> {
-        let frame = read(config, bytes).ok()?;
-        let (sender, _lacks) = missing_of(config, &frame)?;
-        Some((Carried::of(&frame), sender))
     }
 
     /// The block.
@@ -88,17 +74,15 @@ pub(crate) struct Waiting {
 }
 
 impl Waiting {
-    /// A frame of this number. None, where frames of this kind lack no block.
-    pub(crate) fn new(config: &Config, number: u64, bytes: Bytes) -> Option<Waiting> {
-        let frame = read(config, bytes.as_slice()).ok()?;
-        let (sender, lacks) = missing_of(config, &frame)?;
-        let brings = Carried::of(&frame);
+    /// A frame that came. None, where frames of this kind lack no block, and where memory is refused.
+    pub(crate) fn new(arrived: &Arrived<'_>) -> Option<Waiting> {
+        let (sender, lacks) = missing_of(&arrived.frame.read)?;
         Some(Waiting {
-            number,
+            number: arrived.frame.number,
             sender,
             lacks,
-            brings,
-            bytes,
+            brings: arrived.carried(),
+            bytes: arrived.bytes.clone().ok()?,
             bottom: lacks,
             due: 0,
         })

@@ -323,7 +323,7 @@ impl<'a, G: Gate, O: Outgoing + Questioned + Recording> Worker<'a, G, O> {
             self.room.begin();
             match parcel {
                 Parcel::Frame { number, bytes } => {
-                    self.take(rt, steps, &mut share, number, bytes);
+                    self.take(rt, steps, &mut share, number, &bytes);
                 }
                 Parcel::Passed { from, bytes } => self.hear(rt, steps, &mut share, from, bytes),
                 Parcel::Doubted { from, voters } => self.out.hear_doubt(rt, from, voters),

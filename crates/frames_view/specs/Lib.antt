@@ -6,3 +6,4 @@ pub mod Views
 pub mod Places
 pub mod Fields
 pub mod Spelled
+pub mod Reads

@@ -19,6 +19,7 @@ mod frame_views;
 mod lists;
 mod new_view;
 mod proposal;
+mod read_frame;
 mod reply;
 mod views;
 mod vote;
@@ -36,4 +37,5 @@ pub use frame_writers::{
     write_core, write_fetch, write_new_view, write_proposal, write_reply_frame,
     write_request_frame, write_vote,
 };
+pub use read_frame::ReadFrame;
 pub use views::{CertificateView, CommandView, Commands, CoreView, VoteView, Votes};

@@ -5,6 +5,7 @@ use crate::station::Station;
 use bytes::Bytes;
 use catching_up::Question;
 use fabric::{Outgoing, Post, Questioned, Recording, Sender};
+use frames_view::Frame;
 use ids::{Digest, Height, Kind, ReplicaId};
 use liars::{Lies, Lying};
 use signed_frames::{Sending, To};
@@ -151,9 +152,9 @@ impl<C: Clock, P: Post> Outgoing for LyingOut<'_, '_, C, P> {
 
 /// It never comes back where it fell behind.
 impl<C: Clock, P: Post> Recording for LyingOut<'_, '_, C, P> {
-    fn record<R: Wait>(&self, rt: &R, bytes: &Bytes, voted: Option<Digest>) {
+    fn record<R: Wait>(&self, rt: &R, frame: &Frame<'_>, bytes: &Bytes, voted: Option<Digest>) {
         if self.beside == Beside::Records {
-            self.station.recorder().record(rt, bytes, voted);
+            self.station.recorder().record(rt, frame, bytes, voted);
         }
     }
 

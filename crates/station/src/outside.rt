@@ -8,6 +8,7 @@ use authenticators::VerifyingKeyring;
 use bytes::Bytes;
 use catching_up::Question;
 use fabric::{Outgoing, Post, Questioned, Recording};
+use frames_view::Frame;
 use ids::{Digest, Height, ReplicaId, View};
 use signed_frames::Sending;
 use std::alloc::{AllocError, Global};
@@ -60,8 +61,8 @@ impl<'s, 'a, P> Outside<'s, 'a, P> {
 
 /// What it recorded, and how it comes back, has locks of its own.
 impl<P: Post> Recording for Outside<'_, '_, P> {
-    fn record<R: Wait>(&self, rt: &R, bytes: &Bytes, voted: Option<Digest>) {
-        self.station.recorder().record(rt, bytes, voted);
+    fn record<R: Wait>(&self, rt: &R, frame: &Frame<'_>, bytes: &Bytes, voted: Option<Digest>) {
+        self.station.recorder().record(rt, frame, bytes, voted);
     }
 
     fn reach(&self) -> Option<Height> {

@@ -5,7 +5,7 @@ use bytes::Bytes;
 use catching_up::Question;
 use fabric::Answer;
 use frame_record::{Announced, Announcements, FrameRecord, Recorded};
-use frames_view::{CoreView, Frame, read};
+use frames_view::{CoreView, Frame, NewViewView};
 use ids::{Config, Digest, Height, ReplicaId};
 use std::alloc::{AllocError, Global};
 use std::sync::{Mutex, Wait};
@@ -26,7 +26,6 @@ fn cost_of(bytes: u64) -> u64 {
 /// reference.
 #[derive(Drop)]
 pub(crate) struct Recorder {
-    config: Config,
     frames: Mutex<FrameRecord>,
     announcements: Mutex<Announcements>,
     answers: Given,
@@ -42,7 +41,6 @@ impl Recorder {
     ) -> Result<Recorder, AllocError> {
         let most = size_of(megabytes.saturating_mul(1 << 20));
         Ok(Recorder {
-            config,
             frames: Mutex::new(FrameRecord::new(alloc, most)),
             announcements: Mutex::new(Announcements::new(alloc, config)?),
             answers: Given::none(alloc, config)?,
@@ -50,20 +48,30 @@ impl Recorder {
         })
     }
 
-    /// A frame was taken. The replica voted for its block, where this is one. For want of memory it isn't recorded.
-    pub(crate) fn record<R: Wait>(&self, rt: &R, bytes: &Bytes, voted: Option<Digest>) {
+    /// A frame of these bytes was taken. The replica voted for its block, where this is one. For want of memory it isn't
+    /// recorded.
+    pub(crate) fn record<R: Wait>(
+        &self,
+        rt: &R,
+        frame: &Frame<'_>,
+        bytes: &Bytes,
+        voted: Option<Digest>,
+    ) {
+        match frame {
+            Frame::Proposal(proposal) => self.note_block(rt, &proposal.core(), bytes, voted),
+            Frame::NewView(announcement) => self.note_view(rt, announcement, bytes),
+            _ => {}
+        }
+    }
+
+    /// An announcement was taken.
+    fn note_view<R: Wait>(&self, rt: &R, announcement: &NewViewView<'_>, bytes: &Bytes) {
         let Ok(frame) = bytes.clone() else {
             return;
         };
-        match read(&self.config, bytes.as_slice()) {
-            Ok(Frame::Proposal(proposal)) => self.note_block(rt, &proposal.core(), frame, voted),
-            Ok(Frame::NewView(announcement)) => {
-                let view = announcement.view();
-                let mut announcements = self.announcements.lock(rt);
-                announcements.note(announcement.sender(), Announced { view, frame });
-            }
-            _ => {}
-        }
+        let view = announcement.view();
+        let mut announcements = self.announcements.lock(rt);
+        announcements.note(announcement.sender(), Announced { view, frame });
     }
 
     /// A proposal was taken.
@@ -71,9 +79,12 @@ impl Recorder {
         &self,
         rt: &R,
         core: &CoreView<'_>,
-        frame: Bytes,
+        bytes: &Bytes,
         voted: Option<Digest>,
     ) {
+        let Ok(frame) = bytes.clone() else {
+            return;
+        };
         let recorded = Recorded {
             height: core.height(),
             block: match voted {

@@ -42,6 +42,3 @@ pub const BLOCK_MILLIS: u64 = 1;
 /// Milliseconds that what a replica was given may count ahead. Fewer: who takes much at once waits. More: who asks without end
 /// gets more at once.
 pub const GIVEN_AHEAD_MILLIS: u64 = 1000;
-
-/// A frame that asks for a block has no more bytes, and no other frame so few: these are read first.
-pub const MOST_QUESTION_BYTES: usize = 96;

@@ -10,7 +10,7 @@ mod prompt;
 mod share;
 mod steps;
 
-pub use frame_turn::turn;
+pub use frame_turn::{LinkFrame, turn};
 pub use gate::{Gate, Open};
 pub use gather_turn::gather;
 pub use offer_turn::offer;

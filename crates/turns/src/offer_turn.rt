@@ -9,32 +9,33 @@ ghost use Rattle.turns.specs.Shares.{Counts};
 
 use crate::share::Share;
 use crate::steps::Steps;
-use admission::admit_offer;
+use admission::admit_offer_read;
 use authenticators::VerifyingKeyring;
+use frames_view::ReadFrame;
 use ids::Fault;
 use signed_frames::Out;
 use std::sync::Wait;
 
-/// Offers the bytes of a frame to a replica that refused it with `BadTag`: `admit_offer`, and one step.
+/// Offers a frame that was read to a replica that refused it with `BadTag`: `admit_offer`, and one step.
 ///
-/// None where they bring nothing that can be offered, or their own tag isn't right: then steps and share are as before.
+/// None where it brings nothing that can be offered, or its own tag isn't right: then steps and share are as before.
 /// A gate isn't told of it.
 pub fn offer<R: Wait, S: Steps>(
     rt: &R,
     steps: &mut S,
     share: &mut Share,
     keyring: &VerifyingKeyring,
-    bytes: &[u8],
+    frame: &ReadFrame<'_>,
 ) -> Option<Result<Out, Fault>>
     ensures offered { (admitted : Result inputs.Input faults.Fault)
-        × AdmitsBy check_offer keyring.now bytes.entry admitted
+        × AdmitsBy check_offer keyring.now frame.now.bytes admitted
         × MatchResult admitted
         (λ input. MatchOption result ⊥
         (λ answer. S.moved steps.old share.old input answer steps.new share.new))
         (λ n. (result ≡ None) × (steps.new ≡ steps.old) × (share.new ≡ share.old)) }
     ensures counts { IfSome result (λ answer. Counts share.old answer share.new) }
 {
-    let Ok(input) = admit_offer(keyring, bytes) else {
+    let Ok(input) = admit_offer_read(keyring, frame) else {
         return None;
     };
     Some(steps.step(rt, share, input))

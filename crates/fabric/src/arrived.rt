@@ -1,0 +1,61 @@
+//! A frame that came to a replica, read once.
+
+use crate::waiting::Carried;
+use bytes::Bytes;
+use frames_view::{Frame, ReadFrame};
+use ids::{ClientId, Config, ReplicaId, Seq, View};
+use turns::LinkFrame;
+
+/// A frame that came to a replica, or that it kept: read once for all that a worker asks of it.
+#[derive(Drop)]
+pub(crate) struct Arrived<'b> {
+    pub(crate) bytes: &'b Bytes,
+    pub(crate) frame: LinkFrame<'b>,
+}
+
+impl<'b> Arrived<'b> {
+    /// The frame of this number that the bytes are. None where they are none.
+    pub(crate) fn new(config: &Config, number: u64, bytes: &'b Bytes) -> Option<Arrived<'b>> {
+        match ReadFrame::new(config, bytes.as_slice()) {
+            Ok(read) => Some(Arrived {
+                bytes,
+                frame: LinkFrame { number, read },
+            }),
+            Err(_) => None,
+        }
+    }
+
+    /// The frame.
+    pub(crate) fn frame(&self) -> &Frame<'b> {
+        self.frame.read.frame()
+    }
+
+    /// What it carries to its receiver's tree.
+    pub(crate) fn carried(&self) -> Carried {
+        Carried::of(self.frame())
+    }
+
+    /// The view that it proposes in, if it is a proposal.
+    pub(crate) fn proposed_in(&self) -> Option<View> {
+        match self.frame() {
+            Frame::Proposal(proposal) => Some(proposal.view()),
+            _ => None,
+        }
+    }
+
+    /// Whose request it is, and its number, if it is one.
+    pub(crate) fn request(&self) -> Option<(ClientId, Seq)> {
+        match self.frame() {
+            Frame::Request(command) => Some((command.client(), command.seq())),
+            _ => None,
+        }
+    }
+
+    /// Who asks for a block by it, if one does.
+    pub(crate) fn asker(&self) -> Option<ReplicaId> {
+        match self.frame() {
+            Frame::Fetch(question) => Some(question.sender()),
+            _ => None,
+        }
+    }
+}
