@@ -16,7 +16,7 @@ use ids::Fault;
 use signed_frames::Out;
 use std::sync::Wait;
 
-/// Offers a frame that was read to a replica that refused it with `BadTag`: `admit_offer`, and one step.
+/// Offers a frame that was read to a replica that refused it with `BadTag`: `admit_offer_read`, and one step.
 ///
 /// None where it brings nothing that can be offered, or its own tag isn't right: then steps and share are as before.
 /// A gate isn't told of it.
