@@ -1,18 +1,19 @@
 -- Which blocks a replica asks others for: on whose account, when, of whom, and what came. This is the project's own
 -- rule of the running server. No theorem rests on it: a question that isn't asked is a frame that is lost.
-use Rattle.std.specs.Prelude.{ℕ, ◌≡◌, ◌==◌, ◌+◌, ◌-◌, ◌*◌, ◌^◌, ◌<◌, ◌≤◌, ◌&&◌, ◌||◌, not, min, Bool, true, false}
+use Rattle.std.specs.Prelude.{ℕ, ◌≡◌, ◌==◌, ◌+◌, ◌-◌, ◌*◌, ◌/◌, ◌^◌, ◌<◌, ◌≤◌, ◌&&◌, ◌||◌, not, min, max, Bool, true, false}
 use Rattle.std.specs.Prelude.{List, [], ◌∷◌}
 use Rattle.std.specs.Prelude.{◌++◌, count_by, filter, find, length, map, sum_by, All, slice_get, Option, Some, None}
 use Rattle.std.specs.Prelude.{is_none}
 use Rattle.std.specs.Prelude.{nat_lt, nat_le, bytes_eq, if◌then◌else◌}
-use Rattle.std.specs.Option.{option_map_or}
+use Rattle.std.specs.Option.{option_and_then, option_map_or}
 use Rattle.std.specs.List.{list_any}
 use Rattle.ids.specs.declared.fault.Fault.{Fault}
 use Rattle.ids.specs.declared.fault.Fault.TheVariants as fault
 use Rattle.asking.specs.declared.ask.Ask.{Ask}
 use Rattle.asking.specs.declared.block_copy.BlockCopy.{BlockCopy}
-use Rattle.tuning.specs.declared.asking.TheConstants.{MOST_ASKED_FOR, MOST_COPY_BYTES, MOST_TIMES_ASKED}
-use Rattle.tuning.specs.declared.asking.TheConstants.{QUESTION_PACE, QUESTION_PACE_MILLIS, QUESTION_PAUSE_MILLIS}
+use Rattle.tuning.specs.declared.asking.TheConstants.{MOST_ASKED_FOR, MOST_COPY_BYTES, MOST_QUESTION_PAUSE_MILLIS}
+use Rattle.tuning.specs.declared.asking.TheConstants.{MOST_TIMES_ASKED, PAUSE_PART, QUESTION_PACE}
+use Rattle.tuning.specs.declared.asking.TheConstants.{QUESTION_PACE_MILLIS, QUESTION_PAUSE_MILLIS}
 
 -- A block that lacks. Times are milliseconds.
 pub record Question : Type 0 where
@@ -20,14 +21,16 @@ pub record Question : Type 0 where
   pub payer : ℕ  -- whose frame made the replica ask
   pub whom : Option ℕ  -- whom the next question goes to; None for all
   pub times : ℕ  -- how often it was asked
+  pub asked : Option ℕ  -- when it was asked first, while no answer came
   pub due : ℕ  -- when the next question may go out
   pub behind : Option (List ℕ)  -- the block for which its copies wait
   pub copies : List BlockCopy  -- one of each sender at most
 
--- since when questions are counted, and how many there were
+-- since when questions are counted, how many there were, and for how long an answer is awaited at first
 pub record Pace : Type 0 where
   pub since : ℕ
   pub asked : ℕ
+  pub wait : ℕ
 
 -- how many replicas there are; what lacks, oldest first; whose turn it is to have a question asked on its account
 pub record Asking : Type 0 where
@@ -83,6 +86,7 @@ new_question block payer whom now = record {
   payer = payer;
   whom = whom;
   times = 0;
+  asked = None;
   due = now;
   behind = None;
   copies = [];
@@ -97,21 +101,26 @@ needing block payer whom now qs =
 abbrev pub later : (now millis : ℕ) → ℕ
 later now millis = min (now + millis) (2 ^ 64 - 1)
 
--- A question was asked. The next one goes to all: after a pause, and after twice as long from the second time on.
-abbrev pub asked_at : (now : ℕ) → Question → Question
-asked_at now q = record q {
+-- for how long the answer to a question is awaited that was asked so often: as many times as long as to the first one
+abbrev pub pause_of : (wait times : ℕ) → ℕ
+pause_of wait times = min (min (wait * times) (2 ^ 64 - 1)) MOST_QUESTION_PAUSE_MILLIS
+
+-- a question was asked; the next one goes to all
+abbrev pub asked_at : (now wait : ℕ) → Question → Question
+asked_at now wait q = record q {
   whom = None;
   times = q.times + 1;
-  due = later now (QUESTION_PAUSE_MILLIS * min (q.times + 1) 2);
+  asked = if q.times == 0 then Some now else q.asked;
+  due = later now (pause_of wait (q.times + 1));
 }
 
 -- what was asked once at most is asked of all at once
 abbrev pub hastened : (now : ℕ) → Question → Question
 hastened now q = if nat_le q.times 1 then record q { whom = None; due = now } else q
 
--- its copies wait for a block
+-- an answer came, and waits for a block
 abbrev pub waiting_for : List ℕ → Question → Question
-waiting_for parent q = record q { behind = Some parent }
+waiting_for parent q = record q { asked = None; behind = Some parent }
 
 -- whether its copies wait for this block
 abbrev pub waits_for : List ℕ → Question → Bool
@@ -195,8 +204,26 @@ allows now pace = nat_le QUESTION_PACE_MILLIS (now - pace.since) || nat_lt pace.
 -- one more went out
 abbrev pub counted : (now : ℕ) → Pace → Pace
 counted now pace =
-    if nat_le QUESTION_PACE_MILLIS (now - pace.since) then record { since = now; asked = 1 }
+    if nat_le QUESTION_PACE_MILLIS (now - pace.since) then record pace { since = now; asked = 1 }
     else record pace { asked = pace.asked + 1 }
+
+-- For how long an answer is awaited behind one that took so many milliseconds: twice as long. It becomes less by a part
+-- at a time, and lies between two bounds.
+abbrev pub wait_after : (took wait : ℕ) → ℕ
+wait_after took wait =
+    min (max (max (min (took * 2) (2 ^ 64 - 1)) (wait - wait / PAUSE_PART)) QUESTION_PAUSE_MILLIS) MOST_QUESTION_PAUSE_MILLIS
+
+-- when a block was asked for first, while no answer came
+abbrev pub asked_for : (block : List ℕ) → List Question → Option ℕ
+asked_for block qs = option_and_then (λ q. q.asked) (find (is_for block) qs)
+
+-- A block was taken, and with it what it waits for. It tells how long an answer takes.
+abbrev pub taken : (now : ℕ) → (block : List ℕ) → Asking → Asking
+taken now block a = record a {
+  questions = closed block a.questions;
+  pace = option_map_or (λ asked. record a.pace { wait = wait_after (now - asked) a.pace.wait })
+      (asked_for block a.questions) a.pace;
+}
 
 -- One question is asked: the next one, of whom it says. The turn is that of the replica behind its payer.
 pub record Asks (old : Asking) (now : ℕ) (ask : Ask) (new : Asking) : Type 0 where
@@ -206,7 +233,7 @@ pub record Asks (old : Asking) (now : ℕ) (ask : Ask) (new : Asking) : Type 0 w
   pub next : IsNext old now place question
   pub ask_is : ask ≡ record { block = question.block; to = question.whom }
   pub is : new ≡ record old {
-    questions = changed question.block (asked_at now) old.questions;
+    questions = changed question.block (asked_at now old.pace.wait) old.questions;
     turn = one_behind old.replicas question.payer;
     pace = counted now old.pace;
   }

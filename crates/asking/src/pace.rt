@@ -1,18 +1,34 @@
 //! How many questions may go out.
 
 ghost use Rattle.std.specs.Prelude.{◌≡◌, ◌≤◌, ◌-◌, nat_le, IsTrue};
-ghost use Rattle.asking.specs.Asking.{allows, counted};
-ghost use Rattle.tuning.specs.declared.asking.TheConstants.{QUESTION_PACE, QUESTION_PACE_MILLIS};
+ghost use Rattle.asking.specs.Asking.{allows, counted, wait_after};
+ghost use Rattle.tuning.specs.declared.asking.TheConstants.{QUESTION_PACE, QUESTION_PACE_MILLIS, QUESTION_PAUSE_MILLIS};
 
 use std::marker::Model;
-use tuning::{QUESTION_PACE, QUESTION_PACE_MILLIS};
+use tuning::{
+    MOST_QUESTION_PAUSE_MILLIS, PAUSE_PART, QUESTION_PACE, QUESTION_PACE_MILLIS,
+    QUESTION_PAUSE_MILLIS,
+};
 
-/// The questions of a short time.
+/// The questions of a short time, and how long answers take.
 #[derive(Clone, Copy)]
 pub(crate) struct Pace {
     /// When the time began, in milliseconds.
     since: u64,
     asked: u64,
+    /// For how many milliseconds an answer is awaited at first.
+    wait: u64,
+}
+
+/// For how long an answer is awaited behind one that took so many milliseconds, where it was awaited so long before.
+fn wait_after(took: u64, wait: u64) -> u64
+    ensures { result ≡ wait_after took wait }
+{
+    let less = wait - wait / PAUSE_PART;
+    took.saturating_mul(2)
+        .max(less)
+        .max(QUESTION_PAUSE_MILLIS)
+        .min(MOST_QUESTION_PAUSE_MILLIS)
 }
 
 impl Model for Pace {
@@ -22,19 +38,37 @@ impl Model for Pace {
 
     ghost Value = { asking.Pace };
 
-    ghost view = { λ pace. record { since = pace.since; asked = pace.asked } };
+    ghost view = { λ pace. record { since = pace.since; asked = pace.asked; wait = pace.wait } };
 
     ghost invariant = { λ pace. pace.asked ≤ QUESTION_PACE };
 
-    ghost inverse = { λ pace. record { since = pace.since; asked = pace.asked } };
+    ghost inverse = { λ pace. record { since = pace.since; asked = pace.asked; wait = pace.wait } };
 }
 
 impl Pace {
     /// None went out.
     pub(crate) fn new() -> Pace
-        ensures { result ≡ record { since = 0; asked = 0 } }
+        ensures { result ≡ record { since = 0; asked = 0; wait = QUESTION_PAUSE_MILLIS } }
     {
-        Pace { since: 0, asked: 0 }
+        Pace {
+            since: 0,
+            asked: 0,
+            wait: QUESTION_PAUSE_MILLIS,
+        }
+    }
+
+    /// For how many milliseconds an answer is awaited at first.
+    pub(crate) fn wait(&self) -> u64
+        ensures { result ≡ self.now.wait }
+    {
+        self.wait
+    }
+
+    /// A block came so many milliseconds after it was asked for.
+    pub(crate) fn answered(&mut self, took: u64)
+        ensures { self.new ≡ record self.old { wait = wait_after took self.old.wait } }
+    {
+        self.wait = wait_after(took, self.wait);
     }
 
     /// Whether the time that is counted is over.

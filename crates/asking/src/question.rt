@@ -3,7 +3,7 @@
 ghost use Rattle.std.specs.Prelude.{◌≡◌, ◌+◌, ◌-◌, ◌<◌, ◌≤◌, ◌^◌, ◌*◌, ◌&&◌, ◌==◌, count_by, IfOk, OnErr, OnOk, length};
 ghost use Rattle.std.specs.Prelude.{not, filter, nat_lt, nat_le};
 ghost use Rattle.asking.specs.Asking.{asked_at, hastened, is_due, is_for, is_from, is_vain, later, new_question};
-ghost use Rattle.asking.specs.Asking.{released, size_of, waiting_for, waits_for, with_copy_of};
+ghost use Rattle.asking.specs.Asking.{pause_of, released, size_of, waiting_for, waits_for, with_copy_of};
 ghost use Rattle.tuning.specs.declared.asking.TheConstants.{MOST_COPY_BYTES, MOST_TIMES_ASKED};
 
 use crate::ask::Ask;
@@ -12,7 +12,7 @@ use bytes::Bytes;
 use ids::{Digest, ReplicaId};
 use std::alloc::{AllocError, Global};
 use std::marker::Model;
-use tuning::{MOST_TIMES_ASKED, QUESTION_PAUSE_MILLIS};
+use tuning::{MOST_QUESTION_PAUSE_MILLIS, MOST_TIMES_ASKED};
 
 /// A block that lacks.
 #[derive(Drop)]
@@ -24,6 +24,8 @@ pub(crate) struct Question {
     whom: Option<ReplicaId>,
     /// How often it was asked.
     times: u8,
+    /// When it was asked first, while no answer came.
+    asked: Option<u64>,
     /// When the next question may go out, in milliseconds.
     due: u64,
     /// The block for which the copies wait.
@@ -43,6 +45,7 @@ impl Model for Question {
       payer = q.payer;
       whom = q.whom;
       times = q.times;
+      asked = q.asked;
       due = q.due;
       behind = q.behind;
       copies = q.copies.items;
@@ -56,6 +59,14 @@ fn later(now: u64, millis: u64) -> u64
     ensures { result ≡ later now millis }
 {
     now.saturating_add(millis)
+}
+
+/// For how long the answer to a question is awaited that was asked so often.
+fn pause_of(wait: u64, times: u8) -> u64
+    ensures { result ≡ pause_of wait times }
+{
+    wait.saturating_mul(u64::from(times))
+        .min(MOST_QUESTION_PAUSE_MILLIS)
 }
 
 impl Question {
@@ -74,6 +85,7 @@ impl Question {
             payer,
             whom,
             times: 0,
+            asked: None,
             due: now,
             behind: None,
             copies: Vec::new(alloc),
@@ -99,6 +111,13 @@ impl Question {
         ensures { result ≡ self.now.payer }
     {
         self.payer
+    }
+
+    /// When it was asked first, while no answer came.
+    pub(crate) fn asked(&self) -> Option<u64>
+        ensures { result ≡ self.now.asked }
+    {
+        self.asked
     }
 
     /// When it is due.
@@ -129,19 +148,22 @@ impl Question {
         self.due <= now && self.behind.is_none() && self.times >= MOST_TIMES_ASKED
     }
 
-    /// Asks.
-    pub(crate) fn ask(&mut self, now: u64) -> Ask
+    /// Asks. The answer to the first question is awaited for so many milliseconds.
+    pub(crate) fn ask(&mut self, now: u64, wait: u64) -> Ask
         requires { self.old.times < MOST_TIMES_ASKED }
         ensures ask { result ≡ record { block = self.old.block; to = self.old.whom } }
-        ensures asked { self.new ≡ asked_at now self.old }
+        ensures asked { self.new ≡ asked_at now wait self.old }
     {
         let ask = Ask {
             block: self.block,
             to: self.whom,
         };
+        if self.times == 0 {
+            self.asked = Some(now);
+        }
         self.whom = None;
         self.times += 1;
-        self.due = later(now, QUESTION_PAUSE_MILLIS * u64::from(self.times.min(2)));
+        self.due = later(now, pause_of(wait, self.times));
         ask
     }
 
@@ -155,10 +177,11 @@ impl Question {
         }
     }
 
-    /// The copies wait for a block.
+    /// An answer came, and waits for a block.
     pub(crate) fn wait_for(&mut self, parent: Digest)
         ensures { self.new ≡ waiting_for parent self.old }
     {
+        self.asked = None;
         self.behind = Some(parent);
     }
 

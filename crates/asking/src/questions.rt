@@ -8,12 +8,12 @@ ghost use Rattle.std.specs.Prelude.{is_some, nat_lt, slice_get, if◌then◌else
 ghost use Rattle.std.specs.Option.{option_map_or};
 ghost use Rattle.std.specs.List.{list_any};
 ghost use Rattle.ids.specs.Sizes.{replicas};
-ghost use Rattle.asking.specs.Asking.{Question, Asks, IsBounded, NoneDue, allows, changed, closed, fits, given_up};
+ghost use Rattle.asking.specs.Asking.{Question, Asks, IsBounded, NoneDue, allows, asked_for, changed, closed, fits, given_up};
 ghost use Rattle.asking.specs.Asking.{has_room, hastened, having_given_up, is_due, is_for, is_paid_by, is_vain};
 ghost use Rattle.asking.specs.Asking.{is_wanted, kept_for, needing, one_behind, places_behind, released, waiting_for};
-ghost use Rattle.asking.specs.Asking.{waits_for, why_no_copy, with_copy_of};
+ghost use Rattle.asking.specs.Asking.{taken, waits_for, why_no_copy, with_copy_of};
 ghost use Rattle.asking.specs.Choosing.{IsFirstOf, IsSoonerThan};
-ghost use Rattle.tuning.specs.declared.asking.TheConstants.{MOST_COPY_BYTES};
+ghost use Rattle.tuning.specs.declared.asking.TheConstants.{MOST_COPY_BYTES, QUESTION_PAUSE_MILLIS};
 
 use crate::ask::Ask;
 use crate::block_copy::BlockCopy;
@@ -93,7 +93,7 @@ impl Questions {
           replicas = replicas config;
           questions = [];
           turn = 0;
-          pace = record { since = 0; asked = 0 };
+          pace = record { since = 0; asked = 0; wait = QUESTION_PAUSE_MILLIS };
         } }
     {
         Questions {
@@ -285,12 +285,39 @@ impl Questions {
         }
     }
 
-    /// A block is wanted no longer: it was taken, or nobody waits for it. What waited for it waits no longer.
-    pub fn close(&mut self, block: &Digest)
+    /// A block is wanted no longer. What waited for it waits no longer.
+    fn drop_question(&mut self, block: &Digest)
         ensures { self.new ≡ record self.old { questions = closed block.now self.old.questions } }
     {
         self.take_out(block);
         self.release_all(block);
+    }
+
+    /// When a block was asked for first, while no answer came.
+    fn asked_for(&self, block: &Digest) -> Option<u64>
+        ensures { result ≡ asked_for block.now self.now.questions }
+    {
+        self.question(block)?.asked()
+    }
+
+    /// A block was taken: it is wanted no longer, and what waited for it waits no longer. Where it was asked for, it tells how
+    /// long an answer takes.
+    pub fn close(&mut self, block: &Digest, now: u64)
+        ensures { self.new ≡ taken now block.now self.old }
+    {
+        let asked = self.asked_for(block);
+        self.drop_question(block);
+        if let Some(asked) = asked {
+            self.pace.answered(now.saturating_sub(asked));
+        }
+    }
+
+    /// For how many milliseconds an answer is awaited at first: twice as long as the last one took, as far as that isn't
+    /// much less than before.
+    pub fn wait(&self) -> u64
+        ensures { result ≡ self.now.pace.wait }
+    {
+        self.pace.wait()
     }
 
     /// The oldest block that was asked for in vain as often as may be.
@@ -309,7 +336,7 @@ impl Questions {
         ensures { self.new ≡ record self.old { questions = given_up now self.old.questions } }
     {
         if let Some(block) = self.vain(now) {
-            self.close(&block);
+            self.drop_question(&block);
         }
     }
 
@@ -387,9 +414,10 @@ impl Questions {
             return None;
         }
         let place = self.next_place(now)?;
+        let wait = self.pace.wait();
         self.pace.count(now);
         self.turn = one_behind(self.replicas, self.questions[place].payer());
-        Some(self.questions[place].ask(now))
+        Some(self.questions[place].ask(now, wait))
     }
 
     /// The next question, if one is due and may go out. It counts as asked: who is named is asked, or all others where

@@ -74,8 +74,8 @@ vain_after w now p =
     else if w.served then w.vain / 2
     else min (w.vain + (p.view - w.view)) (2 ^ 64 - 1)
 
--- How many times as long as usual a command may take: twice as many behind each view that ended though something was executed
--- in it, up to the most, for the next leader may be no faster; half as many while a view is calm.
+-- How many times as long as usual a command may take, and a view lag: twice as many behind each view that ended though
+-- something was executed in it, up to the most, for the next leader may be no faster; half as many while a view is calm.
 abbrev pub slack_after : Watch → ℕ → Pulse → ℕ
 slack_after w now p =
     if p.view == w.view then (if is_calm w now then max (w.slack / 2) 1 else w.slack)
@@ -91,8 +91,9 @@ abbrev pub limit_of : (least vain : ℕ) → ℕ
 limit_of least vain =
     min (min (min (vain + min (vain / 2 * (vain / 2)) (2 ^ 64 - 1)) (2 ^ 64 - 1) + 1) (2 ^ 64 - 1) * least) (2 ^ 64 - 1)
 
+-- that of its view, as many times as slow as its commands may be
 abbrev pub limit_after : Watch → ℕ → Pulse → ℕ
-limit_after w now p = limit_of w.limit (vain_after w now p)
+limit_after w now p = min (limit_of w.limit (vain_after w now p) * slack_after w now p) (2 ^ 64 - 1)
 
 -- it lags, and has been slow for so long
 abbrev pub is_over : Watch → (now limit slow : ℕ) → Pulse → Bool

@@ -79,7 +79,7 @@ pub struct Watch {
     led: Option<LeadFrom>,
     /// How many views passed in vain, and whether something was executed in this one.
     vain: u64,
-    /// How many times as long as usual a command may take.
+    /// How many times as long as usual a command may take, and its view lag.
     slack: u64,
     served: bool,
     /// Since when its view wasn't slow at all, or half of those views were forgotten.
@@ -239,9 +239,9 @@ impl Watch {
         }
     }
 
-    /// How many times as long as usual a command may take: twice as many behind each view that ended though something was
-    /// executed in it, up to the most; half as many while a view is calm. Where all leaders are slow, as on a machine that has
-    /// too much to do, views would else pass without end, and bring ever less.
+    /// How many times as long as usual a command may take, and its view lag: twice as many behind each view that ended though
+    /// something was executed in it, up to the most; half as many while a view is calm. Where all leaders are slow, as on a
+    /// machine that has too much to do, views would else pass without end, and bring ever less.
     fn slack_after(&self, now: u64, pulse: Pulse) -> u64
         ensures { result ≡ slack_after self.now now pulse }
     {
@@ -353,7 +353,7 @@ impl Watch {
     {
         let (moved, slow) = (self.has_moved(pulse), self.slow_after(now, pulse));
         let (vain, slack) = (self.vain_after(now, pulse), self.slack_after(now, pulse));
-        let limit = limit_of(self.limit, vain);
+        let limit = limit_of(self.limit, vain).saturating_mul(slack);
         let over = self.is_over(now, limit, slow, pulse) || self.climbs(pulse);
         let (rests, overdue) = (self.rests(pulse), self.is_overdue(now, pulse));
         let counts_anew = self.is_settled(pulse) || over;

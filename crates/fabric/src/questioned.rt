@@ -42,5 +42,5 @@ pub trait Questioned {
     }
 
     /// A block was taken.
-    fn close<R: Wait>(&self, _rt: &R, _block: &Digest) {}
+    fn close<R: Wait + Clock>(&self, _rt: &R, _block: &Digest) {}
 }

@@ -369,7 +369,7 @@ impl<'a, G: Gate, O: Outgoing + Questioned + Recording> Worker<'a, G, O> {
     }
 
     /// A frame was taken that brings this block, if any: it isn't asked for any more.
-    fn has_taken<R: Wait>(&self, rt: &R, block: Option<&Digest>) {
+    fn has_taken<R: Wait + Clock>(&self, rt: &R, block: Option<&Digest>) {
         self.room.has_news();
         if let (true, Some(block)) = (self.asks(), block) {
             self.out.close(rt, block);

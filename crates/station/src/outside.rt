@@ -15,7 +15,6 @@ use std::alloc::{AllocError, Global};
 use std::sync::Wait;
 use std::time::{Clock, Instant};
 use suspicion::ReplicaSet;
-use tuning::QUESTION_PAUSE_MILLIS;
 
 /// The frames of copies.
 fn copies_of(alloc: Global, copies: &[BlockCopy]) -> Result<Vec<Bytes>, AllocError> {
@@ -154,12 +153,10 @@ impl<P: Post> Outgoing for Outside<'_, '_, P> {
 impl<P: Post> Questioned for Outside<'_, '_, P> {
     /// The first question goes out after a pause: votes that give grounds are mostly on their way.
     fn need<R: Wait + Clock>(&self, rt: &R, block: Digest, payer: ReplicaId) {
-        let due = self.now(rt).saturating_add(QUESTION_PAUSE_MILLIS);
-        let _refused = self
-            .station
-            .lock(rt)
-            .questions
-            .need(block, payer, None, due);
+        let now = self.now(rt);
+        let questions = &mut self.station.lock(rt).questions;
+        let due = now.saturating_add(questions.wait());
+        let _refused = questions.need(block, payer, None, due);
     }
 
     fn need_below<R: Wait + Clock>(
@@ -199,7 +196,8 @@ impl<P: Post> Questioned for Outside<'_, '_, P> {
         copies_of(alloc, questions.copies(block)).ok()
     }
 
-    fn close<R: Wait>(&self, rt: &R, block: &Digest) {
-        self.station.lock(rt).questions.close(block);
+    fn close<R: Wait + Clock>(&self, rt: &R, block: &Digest) {
+        let now = self.now(rt);
+        self.station.lock(rt).questions.close(block, now);
     }
 }

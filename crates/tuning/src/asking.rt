@@ -1,8 +1,16 @@
 //! Blocks that a replica asks for. A frame's way between two replicas of one process is 10 milliseconds at most, mostly.
 
-/// Milliseconds after which a block is asked for again where nothing came, and half of what follows later: there and
-/// back, and a way to spare. Fewer: what is on its way is asked for twice. More: a lost question costs more.
+/// Milliseconds after which a block is asked for again where nothing came, at least: there and back, and a way to spare.
+/// Fewer: what is on its way is asked for twice. More: a lost question costs more.
 pub const QUESTION_PAUSE_MILLIS: u64 = 30;
+
+/// Milliseconds after which a block is asked for again, at most. More: a faulty replica that answers late makes a lost
+/// question cost more. Fewer: on a machine that has too much to do what is on its way is asked for again and again.
+pub const MOST_QUESTION_PAUSE_MILLIS: u64 = 480;
+
+/// By which part the time for which an answer is awaited becomes less where one came sooner, at most: one in so many. A
+/// smaller part: one late answer is remembered longer.
+pub const PAUSE_PART: u64 = 8;
 
 /// Times that a block is asked for on one frame's account, at most. Fewer: it is given up where many frames are lost.
 /// More: what doesn't exist is asked for longer.

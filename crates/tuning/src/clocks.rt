@@ -34,8 +34,9 @@ pub const VIEW_LIMIT: u64 = 1000;
 /// anew with short views. Longer: the next fault costs more behind a noisy start.
 pub const CALM_MILLIS: u64 = 2000;
 
-/// How many times as long a command may take, at most, where views end though something is executed in them. Fewer: on a machine
-/// that has too much to do views pass without end, and bring ever less. More: a leader that brings little stays longer.
+/// How many times as long a command may take, and a view lag, at most, where views end though something is executed in them.
+/// Fewer: on a machine that has too much to do views pass without end, and bring ever less. More: a leader that brings little, or
+/// falls silent, stays longer.
 pub const MOST_SLACK: u64 = 8;
 
 /// Heights that a view may bring without a decision, times one more than its number, before it ends: twice as many as a

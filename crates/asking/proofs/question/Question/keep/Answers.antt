@@ -18,6 +18,7 @@ returns-clause-kept c =
       payer = c.self.inside.payer;
       whom = c.self.inside.whom;
       times = c.self.inside.times;
+      asked = c.self.inside.asked;
       due = c.self.inside.due;
       behind = c.self.inside.behind;
       copies = l;

@@ -32,9 +32,9 @@ returns-clause-asks c =
     let own : is_for first.0.block (get_or qs c.in_ok-place.place old) ≡ true =
     ap (is_for first.0.block) (sym c.index_mut.ensures.value ∙ is)
     ∙ (bytes_eq-Decides first.0.block first.0.block).1 refl in
-    let written : set qs c.in_ok-place.place c.ask.new.self ≡ changed first.0.block (asked_at c.args.now) qs =
-    ap (set qs c.in_ok-place.place) (c.ask.ensures.asked ∙ ap (asked_at c.args.now) c.index_mut.ensures.value)
-    ∙ changed-at (is_for first.0.block) (asked_at c.args.now) qs c.in_ok-place.place old within own
+    let written : set qs c.in_ok-place.place c.ask.new.self ≡ changed first.0.block (asked_at c.args.now c.self.inside.pace.wait) qs =
+    ap (set qs c.in_ok-place.place) (c.ask.ensures.asked ∙ (λ j. asked_at c.args.now (c.wait-wait.ensures j) (c.index_mut.ensures.value j)))
+    ∙ changed-at (is_for first.0.block) (asked_at c.args.now c.self.inside.pace.wait) qs c.in_ok-place.place old within own
     (c.self.invariant.once first.0.block) in
     let turn : c.one_behind-self-inside.result ≡ one_behind c.self.inside.replicas first.0.payer =
     c.one_behind-self-inside.ensures.behind
@@ -58,7 +58,7 @@ returns-clause-asks c =
         pace = c.count.ensures.counted j;
       })
           ∙ ap (λ (a : Asking). record a {
-            questions = changed first.0.block (asked_at c.args.now) a.questions;
+            questions = changed first.0.block (asked_at c.args.now a.pace.wait) a.questions;
             turn = one_behind a.replicas first.0.payer;
             pace = counted c.args.now a.pace;
           }) c.self.view_is;
