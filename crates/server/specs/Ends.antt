@@ -1,6 +1,7 @@
 -- How a deployment ends.
-use Rattle.std.specs.Prelude.{ℕ, ◌≡◌, ◌<◌, ◌≤◌, ◌⊎◌, Bool, not, Option, Some, List, length, map, ⊤}
-use Rattle.std.specs.List.{filter, slice_get}
+use Rattle.std.specs.Prelude.{ℕ, ◌≡◌, ◌<◌, ◌≤◌, ◌-◌, ◌⊎◌, Bool, not, Option, Some, List, length, map, ⊤}
+use Rattle.std.specs.List.{filter, range_with_len, slice_get}
+use Rattle.ids.specs.Sizes.{Sizes, replicas}
 use Rattle.ids.specs.declared.limits.TheConstants.{MOST_REPLICAS}
 use Rattle.ids.specs.declared.fault.Fault.{Fault}
 use Rattle.ids.specs.declared.fault.Fault.TheVariants.{Memory, AcceptFailed, NoSuchParty, TooFew}
@@ -76,15 +77,17 @@ IsEndAudit kept (Part count verdict windows) =
     × IsOfWindows (all_of kept) windows
 IsEndAudit kept (Windows windows) = AreFew (whole_of kept) × IsOfWindows (all_of kept) windows
 
--- it is said of so many replicas
-pub record IsEndOf (count : ℕ) (audit : EndAudit) : Type 0 where
-  pub kept : List KeptState
-  pub all : length kept ≡ count
-  pub is : IsEndAudit kept audit
+-- kept replicas are those of a deployment of these sizes from a number on, so many, in order
+abbrev pub AreFrom : Sizes → (first count : ℕ) → List KeptState → Type 0
+AreFrom sizes first count kept =
+    map {B = Sizes × ℕ} (λ (one : KeptState). (one.keys.sizes, one.keys.party)) kept
+    ≡ map (λ (number : ℕ). (sizes, number)) (range_with_len first count)
 
--- it is said of the replicas of a deployment, of which none is left out but the first, which were to lie
-abbrev pub IsEnd : EndAudit → Type 0
-IsEnd audit = (count : ℕ) × IsEndOf count audit
+-- it is said of all replicas of a deployment of these sizes but the first so many, which were to lie
+pub record IsEnd (sizes : Sizes) (liars : ℕ) (audit : EndAudit) : Type 0 where
+  pub kept : List KeptState
+  pub others : AreFrom sizes liars (replicas sizes - liars) kept
+  pub is : IsEndAudit kept audit
 
 -- an audit's verdict is among what is said
 abbrev pub IsAudited : EndAudit → Type 0

@@ -6,6 +6,7 @@ ghost use Rattle.ids.specs.Sizes.{replicas};
 ghost use Rattle.ids.specs.declared.fault.Fault.TheVariants.{AcceptFailed, Memory, NoSuchParty};
 ghost use Rattle.marks.specs.Eyes.{first_eye, first_eyes};
 ghost use Rattle.server.specs.Ends.{IsEnd, IsAudited, IsNoRun};
+ghost use Rattle.station.specs.Workers.{liar_count};
 
 use crate::ending::{EndAudit, judge_by_terms};
 use crate::local::Local;
@@ -189,20 +190,20 @@ fn serve_and_judge<R: Threads + Wait + Clock + Sync + Send + AllocGlobal + Log +
     requires words { marks.now.words ≡ replicas keys.now.sizes }
     requires eyes { eyes.items ≡ first_eyes marks.now }
     ensures served { IfOk result (λ ended. IfOk ended.served (λ served. served ≡ terms.most)) }
-    ensures audit { IfOk result (λ ended. IsEnd ended.audit) }
+    ensures audit { IfOk result (λ ended. IsEnd keys.now.sizes (liar_count terms.liars) ended.audit) }
     ensures audited { IfOk result (λ ended. terms.window ≡ None → IsAudited ended.audit) }
     ensures refused { IfErr result IsNoRun }
 {
-    let (alloc, n) = (rt.alloc(), keys.config().n());
+    let (alloc, config) = (rt.alloc(), keys.config());
     let mut eyes = eyes;
-    let watcher = Watcher::new(marks, n, &mut eyes);
+    let watcher = Watcher::new(marks, config.n(), &mut eyes);
     let (stations, workers) = stations(alloc, keys, marks, eyes, ends, &terms)?;
     let room = Vec::with_capacity(alloc, stations.len())?;
     let served = match serve_at(rt, deployment, stations.as_slice(), workers, watcher, terms) {
         Ok(()) => Ok(terms.most),
         Err(fault) => Err(fault),
     };
-    let audit = judge_by_terms(stations, terms, room)?;
+    let audit = judge_by_terms(stations, config, terms, room)?;
     Ok(Ended { served, audit })
 }
 
@@ -220,7 +221,7 @@ pub fn run<R: Threads + Wait + Clock + Sync + Send + AllocGlobal + Log + Clone +
     terms: Terms,
 ) -> Result<Ended, Fault>
     ensures served { IfOk result (λ ended. IfOk ended.served (λ served. served ≡ terms.most)) }
-    ensures audit { IfOk result (λ ended. IsEnd ended.audit) }
+    ensures audit { IfOk result (λ ended. IsEnd keys.now.sizes (liar_count terms.liars) ended.audit) }
     ensures audited { IfOk result (λ ended. terms.window ≡ None → IsAudited ended.audit) }
     ensures refused { IfErr result IsNoRun }
 {

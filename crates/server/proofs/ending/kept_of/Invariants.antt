@@ -1,4 +1,5 @@
 use Rattle.std.proofs.Common.{◌≡◌, ◌≤◌, ◌+◌, ◌-◌, length, vec_len, vec_capacity}
+use Rattle.server.specs.Ends.{AreFrom}
 use Rattle.server.proofs.ending.kept_of.Given as goal
 
 -- those that were seen are kept, but for the first; and there is room for all
@@ -8,4 +9,5 @@ invariant-loop-number l =
     × (goal.iterator-loop-number).is_finite l.number-iterator
     × (l.number-iterator.count + length l.number-iterator.iter.rest.items ≡ vec_len l.fn.stations)
     × (vec_len l.kept ≡ l.number-iterator.count - l.skipped)
+    × AreFrom l.config l.skipped (l.number-iterator.count - l.skipped) l.kept.items
     × (vec_len l.fn.stations ≤ vec_capacity l.kept)
