@@ -12,7 +12,7 @@ use Rattle.fabric.specs.Sizes.{with_all}
 
 -- its bytes, where it has some, and its place
 abbrev pub size_of : Parcel → ℕ
-size_of (Frame number bytes) = length bytes + PARCEL_SIZE
+size_of (Frame number from bytes) = length bytes + PARCEL_SIZE
 size_of (Passed from bytes) = length bytes + PARCEL_SIZE
 size_of (Answered from answer) = with_all (with_all PARCEL_SIZE answer.frames.items) answer.announced.items
 size_of _ = PARCEL_SIZE

@@ -1,8 +1,15 @@
 -- The rows of a replica's link: of each replica, of its clock, of clients, and of what each replica answers.
-use Rattle.std.specs.Prelude.{ℕ, ◌+◌, Bool, false}
+use Rattle.std.specs.Prelude.{ℕ, ◌+◌, Bool, false, Option, Some, None}
 use Rattle.ids.specs.Sizes.{Sizes, replicas}
 use Rattle.tuning.specs.declared.links.TheConstants.{CLIENT_ROWS}
 use Rattle.fabric.specs.declared.rows.Row.{Row}
+use Rattle.fabric.specs.declared.rows.Sender.{Sender}
+use Rattle.fabric.specs.declared.rows.Sender.TheVariants.{Replica, Front}
+
+-- the replica that a sender is, if it is one
+abbrev pub replica_of : Sender → Option ℕ
+replica_of (Replica number) = Some number
+replica_of (Front number) = None
 
 -- a row in which nothing is a request
 abbrev plain : ℕ → Row

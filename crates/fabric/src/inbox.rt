@@ -1,12 +1,13 @@
 //! Where the parcels of one replica's link wait.
 
 ghost use Rattle.std.specs.Prelude.{◌≡◌, ◌+◌, ◌-◌, ◌/◌, ◌^◌, ◌<◌, ◌≤◌, ◌⊎◌, ◌==◌, ◌&&◌, ◌||◌, ℕ, false, true, is_some, length};
-ghost use Rattle.std.specs.Prelude.{IfNone, IfOk, IfSome, MatchBool, OnErr, OnOk, OnSome, Some, map, min, nat_le, nat_lt, option_map};
+ghost use Rattle.std.specs.Prelude.{IfNone, IfOk, IfSome, MatchBool, MatchOption, OnErr, OnOk, OnSome, Some, map, min, nat_le, nat_lt, option_map};
+ghost use Rattle.std.specs.Prelude.{◌*◌, set, slice_get};
 ghost use Rattle.std.specs.Prelude.{if◌then◌else◌};
 ghost use Rattle.std.specs.Bool.{OnFalse, OnTrue};
 ghost use Rattle.std.specs.Option.{ForSome};
-ghost use Rattle.fair_queue.specs.Queues.{IsNext, NoneReady, Puts, Takes, ready_at, refilled, waiting_in};
-ghost use Rattle.tuning.specs.declared.links.TheConstants.{LINK_SHARE_BYTES, REFILL_BYTES, REFILL_FRAMES};
+ghost use Rattle.fair_queue.specs.Queues.{IsNext, NoneReady, Puts, Takes, charged, ready_at, refilled, waiting_in};
+ghost use Rattle.tuning.specs.declared.links.TheConstants.{LINK_SHARE_BYTES, REFILL_BYTES, REFILL_FRAMES, VAIN_WEIGHT};
 ghost use Rattle.ids.specs.Sizes.{replicas};
 ghost use Rattle.fabric.specs.Inboxes.{count_of, is_over};
 ghost use Rattle.fabric.specs.Parcels.{size_of};
@@ -22,7 +23,7 @@ use std::sync::atomic::AtomicU64;
 use std::sync::atomic::Ordering::SeqCst;
 use std::sync::{Condvar, Mutex, MutexGuard, Wait};
 use std::time::{Clock, Duration, Instant};
-use tuning::{LINK_SHARE_BYTES, LOOKS, REFILL_BYTES, REFILL_FRAMES, REFILL_MILLIS};
+use tuning::{LINK_SHARE_BYTES, LOOKS, REFILL_BYTES, REFILL_FRAMES, REFILL_MILLIS, VAIN_WEIGHT};
 
 /// A parcel that waits.
 #[derive(Drop)]
@@ -180,6 +181,20 @@ impl Inside {
         self.rung = self.rung.saturating_sub(1);
     }
 
+    /// A frame of so many bytes came from this row in vain: it counts as `VAIN_WEIGHT`, of which it was one when it was taken.
+    fn charge(&mut self, row: usize, bytes: usize)
+        ensures charged { MatchOption (slice_get self.old.queue.rows row) (self.new.queue ≡ self.old.queue)
+            (λ one. self.new.queue ≡ record self.old.queue {
+              rows = set self.old.queue.rows row
+                  (charged (VAIN_WEIGHT - 1) (min (bytes * (VAIN_WEIGHT - 1)) (2 ^ 64 - 1)) one);
+            }) }
+        ensures numbered { self.new.numbered ≡ self.old.numbered }
+        ensures before_stop { self.new.before_stop ≡ self.old.before_stop }
+    {
+        let more = VAIN_WEIGHT - 1;
+        self.queue.charge(row, more, bytes.saturating_mul(more));
+    }
+
     /// Each sender is allowed its part again.
     fn refill(&mut self, now: Option<Instant>)
         ensures { self.new.queue.rows ≡ map (refilled self.old.queue.allowed) self.old.queue.rows }
@@ -298,9 +313,17 @@ impl Inbox {
         bytes: Bytes,
     ) -> Result<(), Refusal> {
         let row = self.row_of(from);
+        let from = from.replica();
         let mut inside = self.inside.lock(rt);
         let number = inside.next_number();
-        let wakes = inside.add(row, Parcel::Frame { number, bytes })?;
+        let wakes = inside.add(
+            row,
+            Parcel::Frame {
+                number,
+                from,
+                bytes,
+            },
+        )?;
         if row.is_request {
             self.requests.fetch_add(1, SeqCst);
         }
@@ -308,6 +331,12 @@ impl Inbox {
             self.tell(inside);
         }
         Ok(())
+    }
+
+    /// A frame of so many bytes came from a replica in vain: it counts as more than one.
+    pub(crate) fn charge<R: Wait>(&self, rt: &R, from: ReplicaId, bytes: usize) {
+        let row = replica_row(from);
+        self.inside.lock(rt).charge(row.number, bytes);
     }
 
     /// Puts a parcel that is no request into a row.

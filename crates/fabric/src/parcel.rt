@@ -63,6 +63,8 @@ pub enum Parcel {
         /// The frames that are handed to one replica's link are numbered from 1. At 2^64 - 1 the
         /// number stays.
         number: u64,
+        /// The replica that handed it in, if one did.
+        from: Option<ReplicaId>,
         bytes: Bytes,
     },
     /// A client's request, as it came to another replica, which passes it on. It comes to no replica as a frame.

@@ -2,7 +2,7 @@
 
 ghost use Rattle.std.specs.Prelude.{◌≡◌, ◌+◌, ◌<◌, ◌≤◌, false, true};
 ghost use Rattle.ids.specs.Sizes.{replicas};
-ghost use Rattle.fabric.specs.Rows.{answer_row, clock_row, replica_row, row_count};
+ghost use Rattle.fabric.specs.Rows.{answer_row, clock_row, replica_of, replica_row, row_count};
 
 use ids::{Config, ReplicaId};
 use tuning::CLIENT_ROWS;
@@ -13,6 +13,18 @@ pub enum Sender {
     Replica(ReplicaId),
     /// The front of this number, through which some clients' requests come.
     Front(u8),
+}
+
+impl Sender {
+    /// The replica that it is, if it is one.
+    pub(crate) fn replica(&self) -> Option<ReplicaId>
+        ensures { result ≡ replica_of self.now }
+    {
+        match *self {
+            Sender::Replica(number) => Some(number),
+            Sender::Front(_) => None,
+        }
+    }
 }
 
 /// In which row a parcel waits, and whether it is a client's request.

@@ -40,14 +40,15 @@ fn slices<'b>(alloc: Global, frames: &'b [Bytes]) -> Result<Vec<&'b [u8]>, Alloc
 }
 
 impl<'a, G: Gate, O: Outgoing + Questioned + Recording> Worker<'a, G, O> {
-    /// The turn of one frame; where a tag isn't right, it is offered. What it sends goes out.
+    /// The turn of one frame; where a tag isn't right, it is offered. What it sends goes out. Whether it
+    /// votes.
     pub(crate) fn bring<R: Wait + Clock, S: Steps>(
         &mut self,
         rt: &R,
         steps: &mut S,
         share: &mut Share,
         arrived: &Arrived<'_>,
-    ) -> Result<(), Fault>
+    ) -> Result<bool, Fault>
         ensures { HasGrown share.old share.new }
     {
         let keyring = self.keyring.verifying();
@@ -66,7 +67,7 @@ impl<'a, G: Gate, O: Outgoing + Questioned + Recording> Worker<'a, G, O> {
         share: &mut Share,
         number: u64,
         bytes: &Bytes,
-    ) -> Result<(), Fault>
+    ) -> Result<bool, Fault>
         ensures { HasGrown share.old share.new }
     {
         match Arrived::new(&self.keyring.config(), number, bytes) {
@@ -81,12 +82,13 @@ impl<'a, G: Gate, O: Outgoing + Questioned + Recording> Worker<'a, G, O> {
         rt: &R,
         arrived: &Arrived<'_>,
         answer: Result<Out, Fault>,
-    ) -> Result<(), Fault> {
+    ) -> Result<bool, Fault> {
         let out = answer?;
         let voted = voted_for(&self.keyring.config(), &out);
+        let votes = voted.is_some();
         self.send_all(rt, out);
         self.out.record(rt, arrived.frame(), arrived.bytes, voted);
-        Ok(())
+        Ok(votes)
     }
 
     /// Offers a frame, if its own tag is right. What the step sends goes out.
@@ -96,7 +98,7 @@ impl<'a, G: Gate, O: Outgoing + Questioned + Recording> Worker<'a, G, O> {
         steps: &mut S,
         share: &mut Share,
         arrived: &Arrived<'_>,
-    ) -> Option<Result<(), Fault>>
+    ) -> Option<Result<bool, Fault>>
         ensures { HasGrown share.old share.new }
     {
         let keyring = self.keyring.verifying();
@@ -112,7 +114,7 @@ impl<'a, G: Gate, O: Outgoing + Questioned + Recording> Worker<'a, G, O> {
         steps: &mut S,
         share: &mut Share,
         arrived: &Arrived<'_>,
-    ) -> Result<(), Fault>
+    ) -> Result<bool, Fault>
         ensures { HasGrown share.old share.new }
     {
         let tried_at = self.room.news();
@@ -138,7 +140,7 @@ impl<'a, G: Gate, O: Outgoing + Questioned + Recording> Worker<'a, G, O> {
         share: &mut Share,
         arrived: &Arrived<'_>,
         tried_at: u64,
-    ) -> Result<(), Fault>
+    ) -> Result<bool, Fault>
         ensures { HasGrown share.old share.new }
     {
         let Some((sender, _lacks)) = missing_of(&arrived.frame.read) else {
@@ -174,13 +176,13 @@ impl<'a, G: Gate, O: Outgoing + Questioned + Recording> Worker<'a, G, O> {
         steps: &mut S,
         share: &mut Share,
         copies: Vec<Bytes>,
-    ) -> Result<(), Fault>
+    ) -> Result<bool, Fault>
         ensures { HasGrown share.old share.new }
     {
         let frames = slices(self.alloc, &copies)?;
         let out = gather(rt, steps, share, self.keyring.verifying(), &frames)?;
         self.send_all(rt, out);
-        Ok(())
+        Ok(false)
     }
 
     /// Brings the frames that lack this block, which the replica has by now, and those that lack a
@@ -259,7 +261,7 @@ impl<'a, G: Gate, O: Outgoing + Questioned + Recording> Worker<'a, G, O> {
             return;
         }
         let _copy = self.room.take_number(rt, arrived.frame.number);
-        if let (Ok(()), Some(block)) = (brought, brings) {
+        if let (Ok(_), Some(block)) = (brought, brings) {
             self.release(rt, steps, share, block);
         }
     }
@@ -303,7 +305,7 @@ impl<'a, G: Gate, O: Outgoing + Questioned + Recording> Worker<'a, G, O> {
         }
     }
 
-    /// Takes one frame. What is none gets lost.
+    /// Takes one frame. What is none gets lost. Whether it was of use, or cost nothing.
     pub(crate) fn take<R: Wait + Clock, S: Steps>(
         &mut self,
         rt: &R,
@@ -311,38 +313,46 @@ impl<'a, G: Gate, O: Outgoing + Questioned + Recording> Worker<'a, G, O> {
         share: &mut Share,
         number: u64,
         bytes: &Bytes,
-    )
+    ) -> bool
         ensures { HasGrown share.old share.new }
     {
-        if let Some(arrived) = Arrived::new(&self.keyring.config(), number, bytes) {
-            self.take_read(rt, steps, share, &arrived);
+        match Arrived::new(&self.keyring.config(), number, bytes) {
+            Some(arrived) => self.take_read(rt, steps, share, &arrived),
+            None => false,
         }
     }
 
-    /// Takes a frame that was read. Where it brings a block, what waited for that block comes next.
+    /// Takes a frame that was read. Where it brings a block, what waited for that block comes next. Whether it was of use, or
+    /// cost nothing: it was lost unchecked, or taken, or waits for a block. A proposal is of use where it finds a vote.
     fn take_read<R: Wait + Clock, S: Steps>(
         &mut self,
         rt: &R,
         steps: &mut S,
         share: &mut Share,
         arrived: &Arrived<'_>,
-    )
+    ) -> bool
         ensures { HasGrown share.old share.new }
     {
         if let Some(asker) = arrived.asker() {
             self.take_question(rt, steps, share, asker, arrived);
-            return;
+            return true;
         }
         if self.is_out_of_reach(arrived)
             || self.is_late(rt, arrived)
             || !self.lets_in(rt, arrived)
         {
-            return;
+            return true;
         }
         match self.bring(rt, steps, share, arrived) {
-            Ok(()) => self.taken(rt, steps, share, arrived),
-            Err(Fault::UnknownParent) => self.take_later(rt, steps, share, arrived),
-            Err(_) => {}
+            Ok(votes) => {
+                self.taken(rt, steps, share, arrived);
+                votes || arrived.proposed_in().is_none()
+            }
+            Err(Fault::UnknownParent) => {
+                self.take_later(rt, steps, share, arrived);
+                true
+            }
+            Err(_) => false,
         }
     }
 
@@ -395,7 +405,7 @@ impl<'a, G: Gate, O: Outgoing + Questioned + Recording> Worker<'a, G, O> {
         ensures { HasGrown share.old share.new }
     {
         match self.offer_once(rt, steps, share, arrived) {
-            Some(Ok(())) => self.taken(rt, steps, share, arrived),
+            Some(Ok(_)) => self.taken(rt, steps, share, arrived),
             Some(Err(Fault::UnknownParent)) => self.take_later(rt, steps, share, arrived),
             Some(Err(Fault::BadTag)) => return !self.is_past(arrived),
             _ => {}

@@ -86,6 +86,15 @@ pub trait Outgoing {
 /// The number of a frame that a replica sends to itself or has kept: it goes over no link.
 pub(crate) const OWN: u64 = 0;
 
+/// A frame that the replica sent to itself.
+fn own_parcel(bytes: Bytes) -> Parcel {
+    Parcel::Frame {
+        number: OWN,
+        from: None,
+        bytes,
+    }
+}
+
 /// The links take them as they are.
 impl Outgoing for Links {
     fn send<R: Wait>(&self, rt: &R, from: ReplicaId, sending: Sending) {
@@ -199,13 +208,13 @@ impl<'a, G: Gate, O: Outgoing + Questioned + Recording> Worker<'a, G, O> {
     /// the link has its turn: a leader that proposes block on block has to hear that its view is over.
     fn next<R: Wait + Clock>(&mut self, rt: &R) -> Parcel {
         if let Some(bytes) = self.own.take() {
-            return Parcel::Frame { number: OWN, bytes };
+            return own_parcel(bytes);
         }
         if let Some(parcel) = self.next_of_link(rt) {
             return parcel;
         }
         match self.own.take() {
-            Some(bytes) => Parcel::Frame { number: OWN, bytes },
+            Some(bytes) => own_parcel(bytes),
             None => self.inbox.recv(rt),
         }
     }
@@ -322,8 +331,15 @@ impl<'a, G: Gate, O: Outgoing + Questioned + Recording> Worker<'a, G, O> {
             let parcel = self.next(rt);
             self.room.begin();
             match parcel {
-                Parcel::Frame { number, bytes } => {
-                    self.take(rt, steps, &mut share, number, &bytes);
+                Parcel::Frame {
+                    number,
+                    from,
+                    bytes,
+                } => {
+                    let was_of_use = self.take(rt, steps, &mut share, number, &bytes);
+                    if let (false, Some(from)) = (was_of_use, from) {
+                        self.inbox.charge(rt, from, bytes.len());
+                    }
                 }
                 Parcel::Passed { from, bytes } => self.hear(rt, steps, &mut share, from, bytes),
                 Parcel::Doubted { from, voters } => self.out.hear_doubt(rt, from, voters),

@@ -43,6 +43,10 @@ after_one row size rest =
 abbrev pub refilled : {T : Type 0} → Allowance → Row T → Row T
 refilled allowed row = record row { count_left = allowed.count; size_left = allowed.size }
 
+-- a row of which so much less may be taken until the next refill
+abbrev pub charged : {T : Type 0} → (count size : ℕ) → Row T → Row T
+charged count size row = record row { count_left = row.count_left - count; size_left = row.size_left - size }
+
 -- the row so many places behind the turn
 abbrev pub row_at : (rows turn place : ℕ) → ℕ
 row_at rows turn place = if nat_lt (turn + place) rows then turn + place else turn + place - rows

@@ -1,8 +1,9 @@
 //! All rows, and whose turn it is.
 
-ghost use Rattle.std.specs.Prelude.{◌≡◌, ◌+◌, ◌<◌, ◌≤◌, ℕ, length, IfOk, OnOk, OnErr, IfSome, IfNone, MatchBool, map, nat_lt, replicate};
+ghost use Rattle.std.specs.Prelude.{◌≡◌, ◌+◌, ◌<◌, ◌≤◌, ℕ, length, IfOk, OnOk, OnErr, IfSome, IfNone, MatchBool, MatchOption, map, nat_lt, replicate};
+ghost use Rattle.std.specs.Prelude.{set, slice_get};
 ghost use Rattle.std.specs.Bool.{OnTrue, OnFalse};
-ghost use Rattle.fair_queue.specs.Queues.{IsNext, NoneReady, Puts, Takes, empty_row, ready_at, refilled, row_at, row_behind, waiting_in};
+ghost use Rattle.fair_queue.specs.Queues.{IsNext, NoneReady, Puts, Takes, charged, empty_row, ready_at, refilled, row_at, row_behind, waiting_in};
 ghost use Rattle.tuning.specs.declared.links.TheConstants.{LINK_SHARE_BYTES};
 ghost use Rattle.fair_queue.specs.declared.refusal.Refusal.TheVariants.{Full, Memory};
 
@@ -111,6 +112,16 @@ impl<T: Drop> FairQueue<T> {
         let allowed = self.allowed;
         for row in self.rows.iter_mut() {
             row.refill(allowed);
+        }
+    }
+
+    /// So much less may be taken from the row of this number until the next refill. Where there is none, nothing changes.
+    pub fn charge(&mut self, number: usize, count: usize, size: usize)
+        ensures { MatchOption (slice_get self.old.rows number) (self.new ≡ self.old)
+            (λ row. self.new ≡ record self.old { rows = set self.old.rows number (charged count size row) }) }
+    {
+        if number < self.rows.len() {
+            self.rows[number].charge(count, size);
         }
     }
 

@@ -1,7 +1,7 @@
 //! What one sender has waiting.
 
 ghost use Rattle.std.specs.Prelude.{◌≡◌, ◌+◌, ◌-◌, ◌<◌, ◌≤◌, [], ◌∷◌, ◌++◌, nat_lt, OnOk, OnErr, IfSome, IfNone, MatchBool, List, ℕ, is_some};
-ghost use Rattle.fair_queue.specs.Queues.{size_of, is_ready, after_one, empty_row, refilled};
+ghost use Rattle.fair_queue.specs.Queues.{size_of, is_ready, after_one, charged, empty_row, refilled};
 ghost use Rattle.fair_queue.specs.declared.refusal.Refusal.TheVariants.{Full, Memory};
 
 use crate::allowance::Allowance;
@@ -98,6 +98,14 @@ impl<T: Drop> Row<T> {
         self.count_left -= 1;
         self.size_left = self.size_left.saturating_sub(size);
         Some(value)
+    }
+
+    /// So much less is left of the allowance.
+    pub(crate) fn charge(&mut self, count: usize, size: usize)
+        ensures { self.new ≡ charged count size self.old }
+    {
+        self.count_left = self.count_left.saturating_sub(count);
+        self.size_left = self.size_left.saturating_sub(size);
     }
 
     /// The whole allowance is left again.

@@ -37,7 +37,7 @@ pub const CALM_MILLIS: u64 = 2000;
 /// How many times as long a command may take, and a view lag, at most, where views end though something is executed in them.
 /// Fewer: on a machine that has too much to do views pass without end, and bring ever less. More: a leader that brings little, or
 /// falls silent, stays longer.
-pub const MOST_SLACK: u64 = 8;
+pub const MOST_SLACK: u64 = 16;
 
 /// Heights that a view may bring without a decision, times one more than its number, before it ends: twice as many as a
 /// proposal may climb, and so more than a correct leader needs. More: a leader that nobody waits for fills the trees of

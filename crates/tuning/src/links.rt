@@ -23,6 +23,10 @@ pub const REFILL_FRAMES: usize = 768;
 /// Bytes that a replica takes from all other replicas in that time; each of n gets the n-th part.
 pub const REFILL_BYTES: usize = 2_097_152;
 
+/// As how many frames one counts that a replica sent in vain: that was refused, or is a proposal that found no vote. More: who
+/// is late at times waits. Fewer: a flooder takes more of the processors.
+pub const VAIN_WEIGHT: usize = 8;
+
 /// Rows in which clients' requests wait at a replica's link: as many get their turn between two frames of a replica as
 /// go into one block.
 pub const CLIENT_ROWS: usize = MOST_COMMANDS;
