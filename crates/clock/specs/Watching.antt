@@ -22,14 +22,17 @@ unseen replicas times = record {
   looked = 0;
   patience = min (patience_of replicas * times) (2 ^ 64 - 1);
   limit = min (VIEW_LIMIT * times) (2 ^ 64 - 1);
+  faults = (replicas - 1) / 3;
   slow = 0;
   asked = 0;
   pause = LEAST_BEAT_MILLIS;
   height = 0;
   from = 0;
+  began = 0;
   stuck = 0;
   led = None;
   vain = 0;
+  silent = 0;
   slack = 1;
   served = false;
   calm = 0;
@@ -74,6 +77,14 @@ vain_after w now p =
     else if w.served then w.vain / 2
     else min (w.vain + (p.view - w.view)) (2 ^ 64 - 1)
 
+-- Of these so many brought nothing that it voted for, as far as leaders may be faulty. They are forgotten as the others are.
+abbrev pub silent_after : Watch → ℕ → Pulse → ℕ
+silent_after w now p =
+    if p.view == w.view then (if is_calm w now then w.silent / 2 else w.silent)
+    else if w.served then w.silent / 2
+    else if p.voted == w.began then min (min (w.silent + (p.view - w.view)) (2 ^ 64 - 1)) w.faults
+    else w.silent
+
 -- How many times as long as usual a command may take, and a view lag: twice as many behind each view that ended though
 -- something was executed in it, up to the most, for the next leader may be no faster; half as many while a view is calm.
 abbrev pub slack_after : Watch → ℕ → Pulse → ℕ
@@ -91,9 +102,10 @@ abbrev pub limit_of : (least vain : ℕ) → ℕ
 limit_of least vain =
     min (min (min (vain + min (vain / 2 * (vain / 2)) (2 ^ 64 - 1)) (2 ^ 64 - 1) + 1) (2 ^ 64 - 1) * least) (2 ^ 64 - 1)
 
--- that of its view, as many times as slow as its commands may be
+-- that of its view, by the views in vain that weren't silent, and as many times as slow as its commands may be
 abbrev pub limit_after : Watch → ℕ → Pulse → ℕ
-limit_after w now p = min (limit_of w.limit (vain_after w now p) * slack_after w now p) (2 ^ 64 - 1)
+limit_after w now p =
+    min (limit_of w.limit (vain_after w now p - silent_after w now p) * slack_after w now p) (2 ^ 64 - 1)
 
 -- it lags, and has been slow for so long
 abbrev pub is_over : Watch → (now limit slow : ℕ) → Pulse → Bool
@@ -102,6 +114,10 @@ is_over w now limit slow p = lags w now p && nat_le limit slow
 -- its view or its last executed block changed since it was looked at last
 abbrev pub settled : Watch → Pulse → Bool
 settled w p = not ((p.view == w.view) && (p.height == w.height))
+
+-- what it had voted for when its view began
+abbrev pub began_after : Watch → Pulse → ℕ
+began_after w p = if p.view == w.view then w.began else p.voted
 
 -- how many heights a view may bring without a decision: so many, and as many more for each view before it
 abbrev pub most_undecided : ℕ → ℕ
@@ -174,14 +190,17 @@ looked w now p = record {
   looked = now;
   patience = w.patience;
   limit = w.limit;
+  faults = w.faults;
   slow = if is_due w now p then 0 else slow_after w now p;
   asked = if rests w p || is_overdue w now p then now else w.asked;
   pause = pause_after w.pause (moved w p) (is_overdue w now p);
   height = p.height;
   from = if settled w p || is_due w now p then p.voted else w.from;
+  began = began_after w p;
   stuck = if is_stuck w now p then w.stuck else now;
   led = if is_stuck w now p then option_or (lead_of w now p) w.led else None;
   vain = vain_after w now p;
+  silent = silent_after w now p;
   slack = slack_after w now p;
   served = served_after w p;
   calm = calm_after w now p;

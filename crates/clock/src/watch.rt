@@ -1,8 +1,8 @@
 //! What is due to one replica.
 
 ghost use Rattle.std.specs.Prelude.{◌≡◌, ◌-◌, if◌then◌else◌};
-ghost use Rattle.clock.specs.Watching.{borne, calm_after, climbs, due_of, is_calm, is_over, is_overdue, lags, lead_after, lead_where, limit_of};
-ghost use Rattle.clock.specs.Watching.{looked, most_undecided, moved, next_lead, settled, stuck_for};
+ghost use Rattle.clock.specs.Watching.{began_after, borne, calm_after, climbs, due_of, is_calm, is_over, is_overdue, lags, lead_after, lead_where};
+ghost use Rattle.clock.specs.Watching.{limit_of, looked, most_undecided, moved, next_lead, settled, silent_after, stuck_for};
 ghost use Rattle.clock.specs.Watching.{patience_of, pause_after, rests, served_after, slack_after, slow_after, unseen, vain_after};
 
 use ids::{Fault, Height, View};
@@ -65,6 +65,8 @@ pub struct Watch {
     patience: u64,
     /// How slow a view may be, where none passed in vain.
     limit: u64,
+    /// How many leaders may be faulty.
+    faults: u64,
     /// How slow its view was so far: `LAG_WEIGHT` for each millisecond in which it lagged, less one for each other.
     slow: u64,
     /// Since when a proposal of it has waited for votes, and how long that may last.
@@ -74,11 +76,14 @@ pub struct Watch {
     height: Height,
     /// What it had voted for when its view began, or when a block was executed last.
     from: Height,
+    /// What it had voted for when its view began.
+    began: Height,
     /// Since when its requests have lagged and nothing was executed, and the last leave to begin anew since then.
     stuck: u64,
     led: Option<LeadFrom>,
-    /// How many views passed in vain, and whether something was executed in this one.
+    /// How many views passed in vain; how many of them were silent; and whether something was executed in this one.
     vain: u64,
+    silent: u64,
     /// How many times as long as usual a command may take, and its view lag.
     slack: u64,
     served: bool,
@@ -146,14 +151,17 @@ impl Watch {
             looked: 0,
             patience: patience_of(replicas).saturating_mul(times),
             limit: VIEW_LIMIT.saturating_mul(times),
+            faults: u64::from(replicas.saturating_sub(1) / 3),
             slow: 0,
             asked: 0,
             pause: LEAST_BEAT_MILLIS,
             height: Height(0),
             from: Height(0),
+            began: Height(0),
             stuck: 0,
             led: None,
             vain: 0,
+            silent: 0,
             slack: 1,
             served: false,
             calm: 0,
@@ -239,6 +247,27 @@ impl Watch {
         }
     }
 
+    /// How many of these were silent: they brought nothing that it voted for. As many count as leaders may be faulty: one that
+    /// says nothing tells of no slow machine, and leaves nothing to climb above. They are forgotten as the others are.
+    fn silent_after(&self, now: u64, pulse: Pulse) -> u64
+        ensures { result ≡ silent_after self.now now pulse }
+    {
+        if pulse.view.0 == self.view.0 {
+            if self.is_calm(now) {
+                self.silent / 2
+            } else {
+                self.silent
+            }
+        } else if self.served {
+            self.silent / 2
+        } else if pulse.voted.0 == self.began.0 {
+            let passed = pulse.view.0.saturating_sub(self.view.0);
+            self.silent.saturating_add(passed).min(self.faults)
+        } else {
+            self.silent
+        }
+    }
+
     /// How many times as long as usual a command may take, and its view lag: twice as many behind each view that ended though
     /// something was executed in it, up to the most; half as many while a view is calm. Where all leaders are slow, as on a
     /// machine that has too much to do, views would else pass without end, and bring ever less.
@@ -255,6 +284,17 @@ impl Watch {
             self.slack.saturating_mul(2).min(MOST_SLACK)
         } else {
             self.slack
+        }
+    }
+
+    /// What it had voted for when its view began.
+    fn began_after(&self, pulse: Pulse) -> Height
+        ensures { result ≡ began_after self.now pulse }
+    {
+        if pulse.view.0 == self.view.0 {
+            self.began
+        } else {
+            pulse.voted
         }
     }
 
@@ -353,7 +393,8 @@ impl Watch {
     {
         let (moved, slow) = (self.has_moved(pulse), self.slow_after(now, pulse));
         let (vain, slack) = (self.vain_after(now, pulse), self.slack_after(now, pulse));
-        let limit = limit_of(self.limit, vain).saturating_mul(slack);
+        let silent = self.silent_after(now, pulse);
+        let limit = limit_of(self.limit, vain.saturating_sub(silent)).saturating_mul(slack);
         let over = self.is_over(now, limit, slow, pulse) || self.climbs(pulse);
         let (rests, overdue) = (self.rests(pulse), self.is_overdue(now, pulse));
         let counts_anew = self.is_settled(pulse) || over;
@@ -365,14 +406,17 @@ impl Watch {
             looked: now,
             patience: self.patience,
             limit: self.limit,
+            faults: self.faults,
             slow: if over { 0 } else { slow },
             asked: if rests || overdue { now } else { self.asked },
             pause: pause_after(self.pause, moved, overdue),
             height: pulse.height,
             from: if counts_anew { pulse.voted } else { self.from },
+            began: self.began_after(pulse),
             stuck: if stuck { self.stuck } else { now },
             led: if stuck { lead.or(self.led) } else { None },
             vain,
+            silent,
             slack,
             served: self.served_after(pulse),
             calm: self.calm_after(now, pulse),

@@ -26,8 +26,8 @@ pub const MOST_COUNTED: u64 = 8;
 pub const LAG_WEIGHT: u64 = 3;
 
 /// How much a view's lag may count, and as much more for each view that passed in vain, and for the square of half of them: a view
-/// that lags all along ends after a third of a second, the next one after two thirds, the tenth after nine seconds. Less: correct
-/// leaders are replaced while they catch up.
+/// that lags all along ends after a third of a second, the next one after two thirds, the tenth after nine seconds. As many as
+/// leaders may be faulty don't count, where they brought nothing. Less: correct leaders are replaced while they catch up.
 pub const VIEW_LIMIT: u64 = 1000;
 
 /// Milliseconds of service that isn't slow after which half of the views in vain are forgotten. Shorter: a slow machine begins
