@@ -2,7 +2,8 @@
 use Rattle.std.specs.Prelude.{ℕ, ◌+◌, ◌*◌, ◌/◌, ◌-◌, ◌^◌, ◌==◌, ◌&&◌, ◌||◌, not, min, max, nat_le, Bool}
 use Rattle.std.specs.Prelude.{if◌then◌else◌, nat_lt, false, Option, Some, None}
 use Rattle.std.specs.Option.{option_or}
-use Rattle.tuning.specs.declared.clocks.TheConstants.{CALM_MILLIS, COMMAND_SHARE, LAG_WEIGHT, LEAD_PART, LEAST_BEAT_MILLIS}
+use Rattle.tuning.specs.declared.clocks.TheConstants.{BEGINNING_SLACK, CALM_MILLIS, COMMAND_SHARE, LAG_WEIGHT, LEAD_PART}
+use Rattle.tuning.specs.declared.clocks.TheConstants.{LEAST_BEAT_MILLIS}
 use Rattle.tuning.specs.declared.clocks.TheConstants.{LEAST_COMMAND_MILLIS, MOST_COUNTED, MOST_SLACK, MOST_UNDECIDED, VIEW_LIMIT}
 use Rattle.clock.specs.declared.watch.LeadFrom.{LeadFrom}
 use Rattle.clock.specs.declared.watch.LeadFrom.TheVariants.{Certified, Lock}
@@ -102,10 +103,14 @@ abbrev pub limit_of : (least vain : ℕ) → ℕ
 limit_of least vain =
     min (min (min (vain + min (vain / 2 * (vain / 2)) (2 ^ 64 - 1)) (2 ^ 64 - 1) + 1) (2 ^ 64 - 1) * least) (2 ^ 64 - 1)
 
--- that of its view, by the views in vain that weren't silent, and as many times as slow as its commands may be
+-- how many times as slow its view may be: as many as its commands may take, and before anything was executed in it so many at most
+abbrev pub borne_by : Watch → (slack : ℕ) → ℕ
+borne_by w slack = if w.served then slack else min slack BEGINNING_SLACK
+
+-- that of its view, by the views in vain that weren't silent
 abbrev pub limit_after : Watch → ℕ → Pulse → ℕ
 limit_after w now p =
-    min (limit_of w.limit (vain_after w now p - silent_after w now p) * slack_after w now p) (2 ^ 64 - 1)
+    min (limit_of w.limit (vain_after w now p - silent_after w now p) * borne_by w (slack_after w now p)) (2 ^ 64 - 1)
 
 -- it lags, and has been slow for so long
 abbrev pub is_over : Watch → (now limit slow : ℕ) → Pulse → Bool

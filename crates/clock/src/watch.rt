@@ -1,14 +1,14 @@
 //! What is due to one replica.
 
 ghost use Rattle.std.specs.Prelude.{◌≡◌, ◌-◌, if◌then◌else◌};
-ghost use Rattle.clock.specs.Watching.{began_after, borne, calm_after, climbs, due_of, is_calm, is_over, is_overdue, lags, lead_after, lead_where};
+ghost use Rattle.clock.specs.Watching.{began_after, borne, borne_by, calm_after, climbs, due_of, is_calm, is_over, is_overdue, lags, lead_after, lead_where};
 ghost use Rattle.clock.specs.Watching.{limit_of, looked, most_undecided, moved, next_lead, settled, silent_after, stuck_for};
 ghost use Rattle.clock.specs.Watching.{patience_of, pause_after, rests, served_after, slack_after, slow_after, unseen, vain_after};
 
 use ids::{Fault, Height, View};
 use tuning::{
-    CALM_MILLIS, COMMAND_SHARE, LAG_WEIGHT, LEAD_PART, LEAST_BEAT_MILLIS, LEAST_COMMAND_MILLIS,
-    MOST_COUNTED, MOST_SLACK, MOST_UNDECIDED, VIEW_LIMIT,
+    BEGINNING_SLACK, CALM_MILLIS, COMMAND_SHARE, LAG_WEIGHT, LEAD_PART, LEAST_BEAT_MILLIS,
+    LEAST_COMMAND_MILLIS, MOST_COUNTED, MOST_SLACK, MOST_UNDECIDED, VIEW_LIMIT,
 };
 
 /// What is seen of a replica at one moment.
@@ -287,6 +287,18 @@ impl Watch {
         }
     }
 
+    /// How many times as slow its view may be, where a command may take so many times as long: as many, and before anything was
+    /// executed in it a few at most. Leaders that are silent in turn would else each have so much time.
+    fn borne_by(&self, slack: u64) -> u64
+        ensures { result ≡ borne_by self.now slack }
+    {
+        if self.served {
+            slack
+        } else {
+            slack.min(BEGINNING_SLACK)
+        }
+    }
+
     /// What it had voted for when its view began.
     fn began_after(&self, pulse: Pulse) -> Height
         ensures { result ≡ began_after self.now pulse }
@@ -394,7 +406,9 @@ impl Watch {
         let (moved, slow) = (self.has_moved(pulse), self.slow_after(now, pulse));
         let (vain, slack) = (self.vain_after(now, pulse), self.slack_after(now, pulse));
         let silent = self.silent_after(now, pulse);
-        let limit = limit_of(self.limit, vain.saturating_sub(silent)).saturating_mul(slack);
+        let limit = limit_of(self.limit, vain.saturating_sub(silent)).saturating_mul(self.borne_by(
+            slack,
+        ));
         let over = self.is_over(now, limit, slow, pulse) || self.climbs(pulse);
         let (rests, overdue) = (self.rests(pulse), self.is_overdue(now, pulse));
         let counts_anew = self.is_settled(pulse) || over;

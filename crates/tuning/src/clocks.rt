@@ -39,6 +39,10 @@ pub const CALM_MILLIS: u64 = 2000;
 /// falls silent, stays longer.
 pub const MOST_SLACK: u64 = 16;
 
+/// How many times as long a view may lag, at most, before anything is executed in it. Fewer: on a machine that has too much to do
+/// leaders are replaced while they begin. More: leaders that are silent in turn cost more.
+pub const BEGINNING_SLACK: u64 = 2;
+
 /// Heights that a view may bring without a decision, times one more than its number, before it ends: twice as many as a
 /// proposal may climb, and so more than a correct leader needs. More: a leader that nobody waits for fills the trees of
 /// all with blocks that are never decided.
