@@ -1,4 +1,4 @@
-//! How many questions may go out.
+//! How many questions may go out, and how long answers are awaited.
 
 ghost use Rattle.std.specs.Prelude.{◌≡◌, ◌≤◌, ◌-◌, nat_le, IsTrue};
 ghost use Rattle.asking.specs.Asking.{allows, counted, wait_after};
