@@ -4,6 +4,7 @@ use Rattle.std.proofs.Common.{[], ◌∷◌, arith, inl, inr, le_trans, nat_le, 
 use Rattle.std.proofs.lemmas.Bool.{and_parts, and_from, or_cases, or_left, cond_both, cond-true, cond-false, leb-true, leb-false}
 use Rattle.std.proofs.lemmas.Bool.{le-leb, eq-eqb, not_from_true}
 use Rattle.std.proofs.Math.Nat.{min-le_left, min-le_right, min-eq_left, min-eq_right, le-min}
+use Rattle.ids.specs.Sizes.{Sizes}
 use Rattle.clock.specs.declared.watch.Pulse.{Pulse}
 use Rattle.clock.specs.declared.watch.Watch.{Watch}
 use Rattle.clock.specs.Watching.{is_calm, is_due, is_overdue, lags, limit_after, moved, slack_after, slow_after}
@@ -33,18 +34,18 @@ slow-step false false true slow passed k most h =
 slow-step false false false slow passed k most h = omega (arith, h)
 
 -- what is remembered counts no more than three times the time that it lagged
-slow-lagged : (replicas times : ℕ) (looks : Looks) → (watched replicas times looks).slow ≤ 3 * lagged replicas times looks
+slow-lagged : (config : Sizes) (times : ℕ) (looks : Looks) → (watched config times looks).slow ≤ 3 * lagged config times looks
 unfolding watched lagged
-slow-lagged replicas times [] = omega arith
-slow-lagged replicas times (x ∷ earlier) =
-    let w = watched replicas times earlier in
+slow-lagged config times [] = omega arith
+slow-lagged config times (x ∷ earlier) =
+    let w = watched config times earlier in
     slow-step (not (x.1.view == w.view)) (is_due w x.0 x.1) (lags w x.0 x.1) w.slow (x.0 - w.looked)
-    (lagged replicas times earlier) (2 ^ 64 - 1) (slow-lagged replicas times earlier)
+    (lagged config times earlier) (2 ^ 64 - 1) (slow-lagged config times earlier)
 
 pub is-earned : IsEarned
-is-earned replicas times earlier now p due =
-    let w = watched replicas times earlier in
-    let k = slow-most w now p (lagged replicas times earlier) (slow-lagged replicas times earlier) in
+is-earned config times earlier now p due =
+    let w = watched config times earlier in
+    let k = slow-most w now p (lagged config times earlier) (slow-lagged config times earlier) in
     elim (or_cases _ _ due) [
       | inr c ↦ inr c
       | inl over ↦ (
@@ -91,25 +92,25 @@ on-step false false true slow passed k most h =
 on-step false false false slow passed k most h = omega arith
 
 -- what is remembered counts three times the time in which it lagged at each look
-slow-on : (replicas times : ℕ) (looks : Looks)
-    → min (3 * lagged_on replicas times looks) (2 ^ 64 - 1) ≤ (watched replicas times looks).slow
+slow-on : (config : Sizes) (times : ℕ) (looks : Looks)
+    → min (3 * lagged_on config times looks) (2 ^ 64 - 1) ≤ (watched config times looks).slow
 unfolding watched lagged_on
-slow-on replicas times [] = omega arith
-slow-on replicas times (x ∷ earlier) =
-    let w = watched replicas times earlier in
+slow-on config times [] = omega arith
+slow-on config times (x ∷ earlier) =
+    let w = watched config times earlier in
     on-step (not (x.1.view == w.view)) (is_due w x.0 x.1) (lags w x.0 x.1) w.slow (x.0 - w.looked)
-    (lagged_on replicas times earlier) (2 ^ 64 - 1) (slow-on replicas times earlier)
+    (lagged_on config times earlier) (2 ^ 64 - 1) (slow-on config times earlier)
 
 pub is-given : IsGiven
-is-given replicas times earlier now p same l h =
-    let w = watched replicas times earlier in
+is-given config times earlier now p same l h =
+    let w = watched config times earlier in
     let most = 2 ^ 64 - 1 in
     let passed = now - w.looked in
     let seen : slow_after w now p ≡ min (w.slow + min (passed * 3) most) most =
     cond-false _ _ _ (not_from_true _ (eq-eqb _ _ same)) ∙ cond-true _ _ _ l in
-    let k = most-added (3 * lagged_on replicas times earlier) (passed * 3) w.slow most (slow-on replicas times earlier) in
+    let k = most-added (3 * lagged_on config times earlier) (passed * 3) w.slow most (slow-on config times earlier) in
     let least = le-min {b = most} h (min-le_right _ most) in
-    let sum : 3 * (lagged_on replicas times earlier + passed) ≡ 3 * lagged_on replicas times earlier + passed * 3 =
+    let sum : 3 * (lagged_on config times earlier + passed) ≡ 3 * lagged_on config times earlier + passed * 3 =
     omega arith in
     or_left _ _ (and_from _ _ l (le-leb _ _
     (subst (λ (n : ℕ). limit_after w now p ≤ n) (sym seen)
@@ -117,10 +118,10 @@ is-given replicas times earlier now p same l h =
 
 pub is-patient : IsPatient
 unfolding watched
-is-patient replicas times [] = omega arith
-is-patient replicas times (x ∷ earlier) =
-    let w = watched replicas times earlier in
-    let old = is-patient replicas times earlier in
+is-patient config times [] = omega arith
+is-patient config times (x ∷ earlier) =
+    let w = watched config times earlier in
+    let old = is-patient config times earlier in
     cond_both (moved w x.1) _ _ (λ (n : ℕ). 20 ≤ n)
     (λ t. omega arith)
     (λ f. cond_both (is_overdue w x.0 x.1) _ _ (λ (n : ℕ). 20 ≤ n)
@@ -137,6 +138,6 @@ slack-within w now p h =
 
 pub is-owed : IsOwed
 unfolding watched
-is-owed replicas times [] = (omega arith, omega arith)
-is-owed replicas times (x ∷ earlier) =
-    slack-within (watched replicas times earlier) x.0 x.1 (is-owed replicas times earlier)
+is-owed config times [] = (omega arith, omega arith)
+is-owed config times (x ∷ earlier) =
+    slack-within (watched config times earlier) x.0 x.1 (is-owed config times earlier)

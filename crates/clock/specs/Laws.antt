@@ -2,18 +2,19 @@
 use Rattle.std.specs.Prelude.{◌≡◌, ℕ, ◌+◌, ◌*◌, ◌-◌, ◌≤◌, ◌⊎◌, ◌==◌, true, not, List, [], ◌∷◌}
 use Rattle.std.specs.Prelude.{if◌then◌else◌}
 use Rattle.tuning.specs.declared.clocks.TheConstants.{LAG_WEIGHT, LEAST_BEAT_MILLIS, MOST_SLACK}
+use Rattle.ids.specs.Sizes.{Sizes}
 use Rattle.clock.specs.declared.watch.Pulse.{Pulse}
 use Rattle.clock.specs.declared.watch.Watch.{Watch}
 use Rattle.clock.specs.Watching.{climbs, is_due, lags, limit_after, looked, unseen}
 
--- the looks at one of so many replicas, which may take so many times as long: each at a moment, and what was seen then; the last one first
+-- the looks at a replica of these sizes, which may take so many times as long: each at a moment, and what was seen then; the last one first
 abbrev pub Looks : Type 0
 Looks = List (ℕ × Pulse)
 
 -- what is remembered after them
-unfoldable pub watched : (replicas times : ℕ) → Looks → Watch
-watched replicas times [] = unseen replicas times
-watched replicas times (x ∷ earlier) = looked (watched replicas times earlier) x.0 x.1
+unfoldable pub watched : (config : Sizes) (times : ℕ) → Looks → Watch
+watched config times [] = unseen config times
+watched config times (x ∷ earlier) = looked (watched config times earlier) x.0 x.1
 
 -- for how many milliseconds it has lagged after a look, where it had lagged for so many before it; or so many as are
 -- kept, where it doesn't lag. In a new view, and once a timeout is due, it is none
@@ -26,35 +27,35 @@ lagged_after w x before kept =
 
 -- for how many milliseconds the replica lagged in the view that it was seen in last, and since the last timeout
 -- that was due in it
-unfoldable pub lagged : (replicas times : ℕ) → Looks → ℕ
-lagged replicas times [] = 0
-lagged replicas times (x ∷ earlier) =
-    let before = lagged replicas times earlier in lagged_after (watched replicas times earlier) x before before
+unfoldable pub lagged : (config : Sizes) (times : ℕ) → Looks → ℕ
+lagged config times [] = 0
+lagged config times (x ∷ earlier) =
+    let before = lagged config times earlier in lagged_after (watched config times earlier) x before before
 
 -- No timeout is due before the replica has lagged for a third (one in `LAG_WEIGHT`) of the limit of its view, this
 -- look included, or its view has brought more heights than it may without a decision.
 abbrev pub IsEarned : Type 0
-IsEarned = (replicas times : ℕ) (earlier : Looks) (now : ℕ) (p : Pulse)
-    → is_due (watched replicas times earlier) now p ≡ true
-    → (limit_after (watched replicas times earlier) now p ≤ LAG_WEIGHT * (lagged replicas times earlier + (now - (watched replicas times earlier).looked)))
-    ⊎ (climbs (watched replicas times earlier) p ≡ true)
+IsEarned = (config : Sizes) (times : ℕ) (earlier : Looks) (now : ℕ) (p : Pulse)
+    → is_due (watched config times earlier) now p ≡ true
+    → (limit_after (watched config times earlier) now p ≤ LAG_WEIGHT * (lagged config times earlier + (now - (watched config times earlier).looked)))
+    ⊎ (climbs (watched config times earlier) p ≡ true)
 
 -- the same, as far back as it lagged at each look
-unfoldable pub lagged_on : (replicas times : ℕ) → Looks → ℕ
-lagged_on replicas times [] = 0
-lagged_on replicas times (x ∷ earlier) = lagged_after (watched replicas times earlier) x (lagged_on replicas times earlier) 0
+unfoldable pub lagged_on : (config : Sizes) (times : ℕ) → Looks → ℕ
+lagged_on config times [] = 0
+lagged_on config times (x ∷ earlier) = lagged_after (watched config times earlier) x (lagged_on config times earlier) 0
 
 -- A timeout is due once the replica has lagged at each look for a third of the limit of its view, this look
 -- included.
 abbrev pub IsGiven : Type 0
-IsGiven = (replicas times : ℕ) (earlier : Looks) (now : ℕ) (p : Pulse)
-    → (let w = watched replicas times earlier in p.view ≡ w.view → lags w now p ≡ true
-    → limit_after w now p ≤ LAG_WEIGHT * (lagged_on replicas times earlier + (now - w.looked))
+IsGiven = (config : Sizes) (times : ℕ) (earlier : Looks) (now : ℕ) (p : Pulse)
+    → (let w = watched config times earlier in p.view ≡ w.view → lags w now p ≡ true
+    → limit_after w now p ≤ LAG_WEIGHT * (lagged_on config times earlier + (now - w.looked))
     → is_due w now p ≡ true)
 
 -- A proposal may always wait for the least pause before there is a beat on top of it.
 abbrev pub IsPatient : Type 0
-IsPatient = (replicas times : ℕ) (looks : Looks) → LEAST_BEAT_MILLIS ≤ (watched replicas times looks).pause
+IsPatient = (config : Sizes) (times : ℕ) (looks : Looks) → LEAST_BEAT_MILLIS ≤ (watched config times looks).pause
 
 -- so many times as long as usual: at least as long, and no more than the most
 abbrev pub IsSlack : ℕ → Type 0
@@ -62,4 +63,4 @@ IsSlack times = (1 ≤ times) × (times ≤ MOST_SLACK)
 
 -- A command may always take as long as usual, and never more than so many times as long.
 abbrev pub IsOwed : Type 0
-IsOwed = (replicas times : ℕ) (looks : Looks) → IsSlack (watched replicas times looks).slack
+IsOwed = (config : Sizes) (times : ℕ) (looks : Looks) → IsSlack (watched config times looks).slack

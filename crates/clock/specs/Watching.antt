@@ -2,9 +2,10 @@
 use Rattle.std.specs.Prelude.{ℕ, ◌+◌, ◌*◌, ◌/◌, ◌-◌, ◌^◌, ◌==◌, ◌&&◌, ◌||◌, not, min, max, nat_le, Bool}
 use Rattle.std.specs.Prelude.{if◌then◌else◌, nat_lt, false, Option, Some, None}
 use Rattle.std.specs.Option.{option_or}
-use Rattle.tuning.specs.declared.clocks.TheConstants.{BEGINNING_SLACK, CALM_MILLIS, COMMAND_SHARE, LAG_WEIGHT, LEAD_PART}
+use Rattle.tuning.specs.declared.clocks.TheConstants.{BEGINNING_SLACK, CALM_MILLIS, CLIMB_A_LIMIT, COMMAND_SHARE, LAG_WEIGHT, LEAD_PART}
 use Rattle.tuning.specs.declared.clocks.TheConstants.{LEAST_BEAT_MILLIS}
-use Rattle.tuning.specs.declared.clocks.TheConstants.{LEAST_COMMAND_MILLIS, MOST_COUNTED, MOST_SLACK, MOST_UNDECIDED, VIEW_LIMIT}
+use Rattle.tuning.specs.declared.clocks.TheConstants.{LEAST_COMMAND_MILLIS, MOST_COUNTED, MOST_SLACK, MOST_UNDECIDED, SPENT_PART, VIEW_LIMIT}
+use Rattle.ids.specs.Sizes.{Sizes, replicas}
 use Rattle.clock.specs.declared.watch.LeadFrom.{LeadFrom}
 use Rattle.clock.specs.declared.watch.LeadFrom.TheVariants.{Certified, Lock}
 use Rattle.clock.specs.declared.watch.Pulse.{Pulse}
@@ -13,17 +14,17 @@ use Rattle.clock.specs.declared.watch.Watch.{Watch}
 
 -- the milliseconds that a command may take among so many replicas: their cube, divided, and at least so many
 abbrev pub patience_of : ℕ → ℕ
-patience_of replicas = max (replicas * replicas * replicas / COMMAND_SHARE) LEAST_COMMAND_MILLIS
+patience_of n = max (n * n * n / COMMAND_SHARE) LEAST_COMMAND_MILLIS
 
 -- nothing was seen yet: view 0, nothing executed, and the least pause. Views and commands may take so many times as long
-abbrev pub unseen : (replicas times : ℕ) → Watch
-unseen replicas times = record {
+abbrev pub unseen : Sizes → (times : ℕ) → Watch
+unseen config times = record {
   view = 0;
   executed = 0;
   looked = 0;
-  patience = min (patience_of replicas * times) (2 ^ 64 - 1);
+  patience = min (patience_of (replicas config) * times) (2 ^ 64 - 1);
   limit = min (VIEW_LIMIT * times) (2 ^ 64 - 1);
-  faults = (replicas - 1) / 3;
+  faults = config.faults;
   slow = 0;
   asked = 0;
   pause = LEAST_BEAT_MILLIS;
@@ -33,7 +34,6 @@ unseen replicas times = record {
   stuck = 0;
   led = None;
   vain = 0;
-  silent = 0;
   slack = 1;
   served = false;
   calm = 0;
@@ -78,14 +78,6 @@ vain_after w now p =
     else if w.served then w.vain / 2
     else min (w.vain + (p.view - w.view)) (2 ^ 64 - 1)
 
--- Of these so many brought nothing that it voted for, as far as leaders may be faulty. They are forgotten as the others are.
-abbrev pub silent_after : Watch → ℕ → Pulse → ℕ
-silent_after w now p =
-    if p.view == w.view then (if is_calm w now then w.silent / 2 else w.silent)
-    else if w.served then w.silent / 2
-    else if p.voted == w.began then min (min (w.silent + (p.view - w.view)) (2 ^ 64 - 1)) w.faults
-    else w.silent
-
 -- How many times as long as usual a command may take, and a view lag: twice as many behind each view that ended though
 -- something was executed in it, up to the most, for the next leader may be no faster; half as many while a view is calm.
 abbrev pub slack_after : Watch → ℕ → Pulse → ℕ
@@ -98,7 +90,16 @@ slack_after w now p =
 abbrev pub served_after : Watch → Pulse → Bool
 served_after w p = (w.served && (p.view == w.view)) || not (p.executed == w.executed)
 
--- how slow a view may be: the least limit, as much more for each view that passed in vain, and for the square of half their number
+-- what it had voted for when its view began
+abbrev pub began_after : Watch → Pulse → ℕ
+began_after w p = if p.view == w.view then w.began else p.voted
+
+-- So many views in vain count against its view: but as many as leaders may be faulty, and one for so many heights that it had
+-- voted for above its last executed block when its view began.
+abbrev pub counted : Watch → (vain : ℕ) → Pulse → ℕ
+counted w vain p = min (vain - w.faults + (began_after w p - p.height) / CLIMB_A_LIMIT) (2 ^ 64 - 1)
+
+-- how slow a view may be: the least limit, as much more for each view that counts, and for the square of half their number
 abbrev pub limit_of : (least vain : ℕ) → ℕ
 limit_of least vain =
     min (min (min (vain + min (vain / 2 * (vain / 2)) (2 ^ 64 - 1)) (2 ^ 64 - 1) + 1) (2 ^ 64 - 1) * least) (2 ^ 64 - 1)
@@ -107,10 +108,22 @@ limit_of least vain =
 abbrev pub borne_by : Watch → (slack : ℕ) → ℕ
 borne_by w slack = if w.served then slack else min slack BEGINNING_SLACK
 
--- that of its view, by the views in vain that weren't silent
+-- how many heights a view may bring without a decision: so many, and as many more for each view before it
+abbrev pub most_undecided : ℕ → ℕ
+most_undecided view = min (min (view + 1) (2 ^ 64 - 1) * MOST_UNDECIDED) (2 ^ 64 - 1)
+
+-- it voted for a block as high above its last executed one as a leader of its view may climb, which is half of that
+abbrev pub is_spent : Pulse → Bool
+is_spent p = nat_le (most_undecided p.view / 2) (p.voted - p.height)
+
+-- that of its view, where so many passed in vain: where its leader may climb no further, a part
+abbrev pub limit_where : Watch → (vain slack : ℕ) → Pulse → ℕ
+limit_where w vain slack p =
+    let limit = min (limit_of w.limit (counted w vain p) * borne_by w slack) (2 ^ 64 - 1) in
+    if is_spent p then limit / SPENT_PART else limit
+
 abbrev pub limit_after : Watch → ℕ → Pulse → ℕ
-limit_after w now p =
-    min (limit_of w.limit (vain_after w now p - silent_after w now p) * borne_by w (slack_after w now p)) (2 ^ 64 - 1)
+limit_after w now p = limit_where w (vain_after w now p) (slack_after w now p) p
 
 -- it lags, and has been slow for so long
 abbrev pub is_over : Watch → (now limit slow : ℕ) → Pulse → Bool
@@ -119,14 +132,6 @@ is_over w now limit slow p = lags w now p && nat_le limit slow
 -- its view or its last executed block changed since it was looked at last
 abbrev pub settled : Watch → Pulse → Bool
 settled w p = not ((p.view == w.view) && (p.height == w.height))
-
--- what it had voted for when its view began
-abbrev pub began_after : Watch → Pulse → ℕ
-began_after w p = if p.view == w.view then w.began else p.voted
-
--- how many heights a view may bring without a decision: so many, and as many more for each view before it
-abbrev pub most_undecided : ℕ → ℕ
-most_undecided view = min (min (view + 1) (2 ^ 64 - 1) * MOST_UNDECIDED) (2 ^ 64 - 1)
 
 -- since then its view has brought more
 abbrev pub climbs : Watch → Pulse → Bool
@@ -205,7 +210,6 @@ looked w now p = record {
   stuck = if is_stuck w now p then w.stuck else now;
   led = if is_stuck w now p then option_or (lead_of w now p) w.led else None;
   vain = vain_after w now p;
-  silent = silent_after w now p;
   slack = slack_after w now p;
   served = served_after w p;
   calm = calm_after w now p;

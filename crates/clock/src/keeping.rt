@@ -6,7 +6,7 @@ ghost use Rattle.clock.specs.Pruning as pruning;
 use crate::forgetting::{Keep, prune_at, shown_by};
 use crate::trouble::Trouble;
 use crate::watch::{Due, Pulse, Watch};
-use ids::{Fault, Height, MOST_REPLICAS, View};
+use ids::{Config, Fault, Height, MOST_REPLICAS, View};
 use std::sync::Wait;
 use std::sync::atomic::AtomicBool;
 use std::sync::atomic::Ordering::SeqCst;
@@ -58,7 +58,7 @@ fn full_for(looks: u64, pulse: &Pulse, may_forget: bool) -> u64
     }
 }
 
-/// Looks at a replica, one of so many, each `LOOK_MILLIS` until it is told to stop, and hands in beats, timeouts, leads, and
+/// Looks at a replica of these sizes each `LOOK_MILLIS` until it is told to stop, and hands in beats, timeouts, leads, and
 /// prunings that leave it so much, if it is to prune. Its views may take so many times as long as where frames take no time. It
 /// tells whether there is trouble.
 ///
@@ -67,13 +67,13 @@ fn full_for(looks: u64, pulse: &Pulse, may_forget: bool) -> u64
 pub fn keep_time<R: Wait + Clock, W: Watched>(
     rt: &R,
     replica: &W,
-    replicas: u8,
+    config: Config,
     times: u64,
     keep: Option<Keep>,
     stop: &AtomicBool,
 ) -> Option<Fault> {
     let start = Instant::now(rt).ok();
-    let (mut watch, mut trouble) = (Watch::new(replicas, times), Trouble::none());
+    let (mut watch, mut trouble) = (Watch::new(config, times), Trouble::none());
     let mut full = 0;
     for _ in rt.forever() {
         if stop.load(SeqCst) {

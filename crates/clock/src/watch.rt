@@ -1,14 +1,14 @@
 //! What is due to one replica.
 
 ghost use Rattle.std.specs.Prelude.{◌≡◌, ◌-◌, if◌then◌else◌};
-ghost use Rattle.clock.specs.Watching.{began_after, borne, borne_by, calm_after, climbs, due_of, is_calm, is_over, is_overdue, lags, lead_after, lead_where};
-ghost use Rattle.clock.specs.Watching.{limit_of, looked, most_undecided, moved, next_lead, settled, silent_after, stuck_for};
+ghost use Rattle.clock.specs.Watching.{began_after, borne, borne_by, calm_after, climbs, counted, due_of, is_calm, is_over, is_overdue, is_spent, lags, lead_after, lead_where};
+ghost use Rattle.clock.specs.Watching.{limit_of, limit_where, looked, most_undecided, moved, next_lead, settled, stuck_for};
 ghost use Rattle.clock.specs.Watching.{patience_of, pause_after, rests, served_after, slack_after, slow_after, unseen, vain_after};
 
-use ids::{Fault, Height, View};
+use ids::{Config, Fault, Height, View};
 use tuning::{
-    BEGINNING_SLACK, CALM_MILLIS, COMMAND_SHARE, LAG_WEIGHT, LEAD_PART, LEAST_BEAT_MILLIS,
-    LEAST_COMMAND_MILLIS, MOST_COUNTED, MOST_SLACK, MOST_UNDECIDED, VIEW_LIMIT,
+    BEGINNING_SLACK, CALM_MILLIS, CLIMB_A_LIMIT, COMMAND_SHARE, LAG_WEIGHT, LEAD_PART, LEAST_BEAT_MILLIS,
+    LEAST_COMMAND_MILLIS, MOST_COUNTED, MOST_SLACK, MOST_UNDECIDED, SPENT_PART, VIEW_LIMIT,
 };
 
 /// What is seen of a replica at one moment.
@@ -81,9 +81,8 @@ pub struct Watch {
     /// Since when its requests have lagged and nothing was executed, and the last leave to begin anew since then.
     stuck: u64,
     led: Option<LeadFrom>,
-    /// How many views passed in vain; how many of them were silent; and whether something was executed in this one.
+    /// How many views passed in vain, and whether something was executed in this one.
     vain: u64,
-    silent: u64,
     /// How many times as long as usual a command may take, and its view lag.
     slack: u64,
     served: bool,
@@ -91,8 +90,7 @@ pub struct Watch {
     calm: u64,
 }
 
-/// How slow a view may be, where so many passed in vain: as much more for each, and for the square of half of them, since each may
-/// have brought what was voted for higher, and a leader has to come above that.
+/// How slow a view may be, where so many count against it: as much more for each, and for the square of half of them.
 fn limit_of(least: u64, vain: u64) -> u64
     ensures { result ≡ limit_of least vain }
 {
@@ -115,6 +113,14 @@ fn brought(from: Height, voted: Height) -> u64
     ensures { result ≡ voted - from }
 {
     voted.0.saturating_sub(from.0)
+}
+
+/// Whether it voted for a block as high above its last executed one as a leader of its view may climb: half of what the view may
+/// bring. Who leads may propose nothing more before it has a certificate.
+fn is_spent(pulse: Pulse) -> bool
+    ensures { result ≡ is_spent pulse }
+{
+    brought(pulse.height, pulse.voted) >= most_undecided(pulse.view.0) / 2
 }
 
 /// How many milliseconds a command may take among so many replicas: `LEAST_COMMAND_MILLIS` among few, and then as the
@@ -140,18 +146,18 @@ fn pause_after(pause: u64, moved: bool, overdue: bool) -> u64
 }
 
 impl Watch {
-    /// Nothing was seen yet of a replica, which is one of so many. Views and commands may take so many times as long as
-    /// where frames take no time.
-    pub fn new(replicas: u8, times: u64) -> Watch
-        ensures { result ≡ unseen replicas times }
+    /// Nothing was seen yet of a replica of these sizes. Views and commands may take so many times as long as where frames take
+    /// no time.
+    pub fn new(config: Config, times: u64) -> Watch
+        ensures { result ≡ unseen config times }
     {
         Watch {
             view: View(0),
             executed: 0,
             looked: 0,
-            patience: patience_of(replicas).saturating_mul(times),
+            patience: patience_of(config.n()).saturating_mul(times),
             limit: VIEW_LIMIT.saturating_mul(times),
-            faults: u64::from(replicas.saturating_sub(1) / 3),
+            faults: u64::from(config.faults()),
             slow: 0,
             asked: 0,
             pause: LEAST_BEAT_MILLIS,
@@ -161,7 +167,6 @@ impl Watch {
             stuck: 0,
             led: None,
             vain: 0,
-            silent: 0,
             slack: 1,
             served: false,
             calm: 0,
@@ -247,27 +252,6 @@ impl Watch {
         }
     }
 
-    /// How many of these were silent: they brought nothing that it voted for. As many count as leaders may be faulty: one that
-    /// says nothing tells of no slow machine, and leaves nothing to climb above. They are forgotten as the others are.
-    fn silent_after(&self, now: u64, pulse: Pulse) -> u64
-        ensures { result ≡ silent_after self.now now pulse }
-    {
-        if pulse.view.0 == self.view.0 {
-            if self.is_calm(now) {
-                self.silent / 2
-            } else {
-                self.silent
-            }
-        } else if self.served {
-            self.silent / 2
-        } else if pulse.voted.0 == self.began.0 {
-            let passed = pulse.view.0.saturating_sub(self.view.0);
-            self.silent.saturating_add(passed).min(self.faults)
-        } else {
-            self.silent
-        }
-    }
-
     /// How many times as long as usual a command may take, and its view lag: twice as many behind each view that ended though
     /// something was executed in it, up to the most; half as many while a view is calm. Where all leaders are slow, as on a
     /// machine that has too much to do, views would else pass without end, and bring ever less.
@@ -299,6 +283,20 @@ impl Watch {
         }
     }
 
+    /// How slow its view may be, where so many passed in vain, and commands may take so many times as long: where its leader may
+    /// climb no further, a part of that.
+    fn limit_where(&self, vain: u64, slack: u64, pulse: Pulse) -> u64
+        ensures { result ≡ limit_where self.now vain slack pulse }
+    {
+        let counted = self.counted(vain, pulse);
+        let limit = limit_of(self.limit, counted).saturating_mul(self.borne_by(slack));
+        if is_spent(pulse) {
+            limit / SPENT_PART
+        } else {
+            limit
+        }
+    }
+
     /// What it had voted for when its view began.
     fn began_after(&self, pulse: Pulse) -> Height
         ensures { result ≡ began_after self.now pulse }
@@ -308,6 +306,16 @@ impl Watch {
         } else {
             pulse.voted
         }
+    }
+
+    /// How many views in vain count against its view: but as many as leaders may be faulty, since what these do tells of no slow
+    /// machine; and one for each `CLIMB_A_LIMIT` heights that it had voted for above its last executed block when its view began,
+    /// since its leader has to come above them.
+    fn counted(&self, vain: u64, pulse: Pulse) -> u64
+        ensures { result ≡ counted self.now vain pulse }
+    {
+        let climb = brought(pulse.height, self.began_after(pulse)) / CLIMB_A_LIMIT;
+        vain.saturating_sub(self.faults).saturating_add(climb)
     }
 
     /// Whether something was executed in the view that it is in.
@@ -405,10 +413,7 @@ impl Watch {
     {
         let (moved, slow) = (self.has_moved(pulse), self.slow_after(now, pulse));
         let (vain, slack) = (self.vain_after(now, pulse), self.slack_after(now, pulse));
-        let silent = self.silent_after(now, pulse);
-        let limit = limit_of(self.limit, vain.saturating_sub(silent)).saturating_mul(self.borne_by(
-            slack,
-        ));
+        let limit = self.limit_where(vain, slack, pulse);
         let over = self.is_over(now, limit, slow, pulse) || self.climbs(pulse);
         let (rests, overdue) = (self.rests(pulse), self.is_overdue(now, pulse));
         let counts_anew = self.is_settled(pulse) || over;
@@ -430,7 +435,6 @@ impl Watch {
             stuck: if stuck { self.stuck } else { now },
             led: if stuck { lead.or(self.led) } else { None },
             vain,
-            silent,
             slack,
             served: self.served_after(pulse),
             calm: self.calm_after(now, pulse),

@@ -154,6 +154,6 @@ pub fn watch<R: Wait + Clock>(
     stop: &AtomicBool,
 ) -> Option<Fault> {
     let timed = Timed { station, sights };
-    let replicas = sights.config().n();
-    keep_time(rt, &timed, replicas, station.patience, station.keep, stop)
+    let config = sights.config();
+    keep_time(rt, &timed, config, station.patience, station.keep, stop)
 }

@@ -25,10 +25,18 @@ pub const MOST_COUNTED: u64 = 8;
 /// What a millisecond in which a view lags counts; one in which it doesn't takes one back.
 pub const LAG_WEIGHT: u64 = 3;
 
-/// How much a view's lag may count, and as much more for each view that passed in vain, and for the square of half of them: a view
+/// How much a view's lag may count, and as much more for each view in vain that counts, and for the square of half of them: a view
 /// that lags all along ends after a third of a second, the next one after two thirds, the tenth after nine seconds. As many as
-/// leaders may be faulty don't count, where they brought nothing. Less: correct leaders are replaced while they catch up.
+/// leaders may be faulty don't count. Less: correct leaders are replaced while they catch up.
 pub const VIEW_LIMIT: u64 = 1000;
+
+/// Heights that were voted for in vain and count as one view in vain: a leader has to come above them. Fewer: faulty leaders that climb
+/// cost more. More: later leaders are replaced while they climb.
+pub const CLIMB_A_LIMIT: u64 = 256;
+
+/// What part of its lag counts against a view whose leader may climb no further. Less: faulty leaders that climb cost more.
+/// More: a correct one that had to climb so far has no time for its last certificate.
+pub const SPENT_PART: u64 = 8;
 
 /// Milliseconds of service that isn't slow after which half of the views in vain are forgotten. Shorter: a slow machine begins
 /// anew with short views. Longer: the next fault costs more behind a noisy start.

@@ -37,6 +37,10 @@ pub const LOOKS: u32 = 100;
 /// Milliseconds that a client sleeps at most before it looks what waits, where fewer than f + 1 frames do.
 pub const CLIENT_SLEEP_MILLIS: u64 = 5;
 
+/// Microseconds that a replica which was made to lie waits where others don't take what it sends. Shorter: its thread takes their
+/// processors. Longer: it hears less.
+pub const LIAR_REST_MICROS: u64 = 100;
+
 /// Blocks of one height that a replica takes on one replica's account, at most. In all runs that were tried a correct
 /// one needed three. More: faulty ones bring more. Fewer: correct leaders are refused. Among many replicas the
 /// doorkeeper lets in fewer, so that no height is ever full.
