@@ -3,7 +3,7 @@
 use crate::waiting::Carried;
 use bytes::Bytes;
 use frames_view::{Frame, ReadFrame};
-use ids::{ClientId, Config, ReplicaId, Seq, View};
+use ids::{ClientId, Config, Digest, ReplicaId, Seq, View};
 use turns::LinkFrame;
 
 /// A frame that came to a replica, or that it kept: read once for all that a worker asks of it.
@@ -51,10 +51,10 @@ impl<'b> Arrived<'b> {
         }
     }
 
-    /// Who asks for a block by it, if one does.
-    pub(crate) fn asker(&self) -> Option<ReplicaId> {
+    /// Who asks by it, and for which block, if it is a question.
+    pub(crate) fn question(&self) -> Option<(ReplicaId, Digest)> {
         match self.frame() {
-            Frame::Fetch(question) => Some(question.sender()),
+            Frame::Fetch(question) => Some((question.sender(), Digest(*question.digest()))),
             _ => None,
         }
     }

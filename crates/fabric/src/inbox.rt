@@ -402,6 +402,11 @@ impl Inbox {
         self.bell.notify_all();
     }
 
+    /// Whether its workers were told to end.
+    pub fn is_ending<R: Wait>(&self, rt: &R) -> bool {
+        self.inside.lock(rt).before_stop.is_some()
+    }
+
     /// How many parcels wait.
     pub fn waiting<R: Wait>(&self, rt: &R) -> usize {
         self.inside.lock(rt).waiting

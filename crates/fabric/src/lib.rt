@@ -23,6 +23,7 @@ mod trials;
 mod unfounded;
 mod waiting;
 mod worker;
+mod worth;
 
 pub use client_end::{ClientEnd, NotTold};
 pub use client_links::ClientLinks;

@@ -447,4 +447,8 @@ impl Post for Links {
     fn answer<R: Wait>(&self, rt: &R, from: ReplicaId, to: ReplicaId, answer: Answer) {
         self.count(self.hand_in_answer(rt, from, to, answer));
     }
+
+    fn refused(&self, from: ReplicaId) -> u64 {
+        self.turned_away(from)
+    }
 }

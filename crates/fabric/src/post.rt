@@ -23,6 +23,11 @@ pub trait Post: Outgoing {
 
     /// Answers a replica that asked this one.
     fn answer<R: Wait>(&self, rt: &R, from: ReplicaId, to: ReplicaId, answer: Answer);
+
+    /// How many frames of a replica couldn't be carried so far since it sends more than others take, where that is known.
+    fn refused(&self, _from: ReplicaId) -> u64 {
+        0
+    }
 }
 
 /// What carries clients' requests to replicas.

@@ -34,13 +34,13 @@ pub trait Recording {
         _question: Question,
     ) {}
 
-    /// Whether another replica that asks for a block is given it: it wasn't given too many of late.
-    fn may_supply<R: Wait + Clock>(&self, _rt: &R, _to: ReplicaId) -> bool {
+    /// Whether another replica that asks for a block is given it: it hasn't just got it, and wasn't given too many of late.
+    fn may_supply<R: Wait + Clock>(&self, _rt: &R, _to: ReplicaId, _block: &Digest) -> bool {
         true
     }
 
     /// A question of another replica for a block was taken.
-    fn supplied<R: Wait + Clock>(&self, _rt: &R, _to: ReplicaId) {}
+    fn supplied<R: Wait + Clock>(&self, _rt: &R, _to: ReplicaId, _block: &Digest) {}
 
     /// Whether the answer to this question is awaited.
     fn awaits<R: Wait>(&self, _rt: &R, _question: &Question) -> bool {

@@ -8,6 +8,7 @@ use crate::recording::Recording;
 use crate::unfounded::Unfounded;
 use crate::waiting::{Carried, Waiting};
 use crate::worker::{Outgoing, Worker};
+use crate::worth::Worth;
 use admission::missing_of;
 use bytes::Bytes;
 use frames_view::{Frame, read};
@@ -40,15 +41,14 @@ fn slices<'b>(alloc: Global, frames: &'b [Bytes]) -> Result<Vec<&'b [u8]>, Alloc
 }
 
 impl<'a, G: Gate, O: Outgoing + Questioned + Recording> Worker<'a, G, O> {
-    /// The turn of one frame; where a tag isn't right, it is offered. What it sends goes out. Whether it
-    /// votes.
+    /// The turn of one frame; where a tag isn't right, it is offered. What it sends goes out. For which block it votes, if for one.
     pub(crate) fn bring<R: Wait + Clock, S: Steps>(
         &mut self,
         rt: &R,
         steps: &mut S,
         share: &mut Share,
         arrived: &Arrived<'_>,
-    ) -> Result<bool, Fault>
+    ) -> Result<Option<Digest>, Fault>
         ensures { HasGrown share.old share.new }
     {
         let keyring = self.keyring.verifying();
@@ -67,7 +67,7 @@ impl<'a, G: Gate, O: Outgoing + Questioned + Recording> Worker<'a, G, O> {
         share: &mut Share,
         number: u64,
         bytes: &Bytes,
-    ) -> Result<bool, Fault>
+    ) -> Result<Option<Digest>, Fault>
         ensures { HasGrown share.old share.new }
     {
         match Arrived::new(&self.keyring.config(), number, bytes) {
@@ -82,13 +82,12 @@ impl<'a, G: Gate, O: Outgoing + Questioned + Recording> Worker<'a, G, O> {
         rt: &R,
         arrived: &Arrived<'_>,
         answer: Result<Out, Fault>,
-    ) -> Result<bool, Fault> {
+    ) -> Result<Option<Digest>, Fault> {
         let out = answer?;
         let voted = voted_for(&self.keyring.config(), &out);
-        let votes = voted.is_some();
         self.send_all(rt, out);
         self.out.record(rt, arrived.frame(), arrived.bytes, voted);
-        Ok(votes)
+        Ok(voted)
     }
 
     /// Offers a frame, if its own tag is right. What the step sends goes out.
@@ -98,7 +97,7 @@ impl<'a, G: Gate, O: Outgoing + Questioned + Recording> Worker<'a, G, O> {
         steps: &mut S,
         share: &mut Share,
         arrived: &Arrived<'_>,
-    ) -> Option<Result<bool, Fault>>
+    ) -> Option<Result<Option<Digest>, Fault>>
         ensures { HasGrown share.old share.new }
     {
         let keyring = self.keyring.verifying();
@@ -114,7 +113,7 @@ impl<'a, G: Gate, O: Outgoing + Questioned + Recording> Worker<'a, G, O> {
         steps: &mut S,
         share: &mut Share,
         arrived: &Arrived<'_>,
-    ) -> Result<bool, Fault>
+    ) -> Result<Option<Digest>, Fault>
         ensures { HasGrown share.old share.new }
     {
         let tried_at = self.room.news();
@@ -140,7 +139,7 @@ impl<'a, G: Gate, O: Outgoing + Questioned + Recording> Worker<'a, G, O> {
         share: &mut Share,
         arrived: &Arrived<'_>,
         tried_at: u64,
-    ) -> Result<bool, Fault>
+    ) -> Result<Option<Digest>, Fault>
         ensures { HasGrown share.old share.new }
     {
         let Some((sender, _lacks)) = missing_of(&arrived.frame.read) else {
@@ -176,13 +175,13 @@ impl<'a, G: Gate, O: Outgoing + Questioned + Recording> Worker<'a, G, O> {
         steps: &mut S,
         share: &mut Share,
         copies: Vec<Bytes>,
-    ) -> Result<bool, Fault>
+    ) -> Result<Option<Digest>, Fault>
         ensures { HasGrown share.old share.new }
     {
         let frames = slices(self.alloc, &copies)?;
         let out = gather(rt, steps, share, self.keyring.verifying(), &frames)?;
         self.send_all(rt, out);
-        Ok(false)
+        Ok(None)
     }
 
     /// Brings the frames that lack this block, which the replica has by now, and those that lack a
@@ -285,27 +284,29 @@ impl<'a, G: Gate, O: Outgoing + Questioned + Recording> Worker<'a, G, O> {
         }
     }
 
-    /// Takes a question for a block, unless who asks was given too many of late. What counts is what was taken: so nobody asks
-    /// in another's name.
+    /// Takes a question for a block, unless who asks has just got it, or was given too many of late. What counts is what was
+    /// taken: so nobody asks in another's name. None where the frame is no question.
     fn take_question<R: Wait + Clock, S: Steps>(
         &mut self,
         rt: &R,
         steps: &mut S,
         share: &mut Share,
-        asker: ReplicaId,
         arrived: &Arrived<'_>,
-    )
+    ) -> Option<Worth>
         ensures { HasGrown share.old share.new }
     {
-        if !self.out.may_supply(rt, asker) {
-            return;
+        let (asker, block) = arrived.question()?;
+        if !self.out.may_supply(rt, asker, &block) {
+            return Some(Worth::OfUse);
         }
-        if self.bring(rt, steps, share, arrived).is_ok() {
-            self.out.supplied(rt, asker);
+        if self.bring(rt, steps, share, arrived).is_err() {
+            return Some(Worth::InVain);
         }
+        self.out.supplied(rt, asker, &block);
+        Some(Worth::OfUse)
     }
 
-    /// Takes one frame. What is none gets lost. Whether it was of use, or cost nothing.
+    /// Takes one frame. What is none gets lost.
     pub(crate) fn take<R: Wait + Clock, S: Steps>(
         &mut self,
         rt: &R,
@@ -313,46 +314,50 @@ impl<'a, G: Gate, O: Outgoing + Questioned + Recording> Worker<'a, G, O> {
         share: &mut Share,
         number: u64,
         bytes: &Bytes,
-    ) -> bool
+    ) -> Worth
         ensures { HasGrown share.old share.new }
     {
         match Arrived::new(&self.keyring.config(), number, bytes) {
             Some(arrived) => self.take_read(rt, steps, share, &arrived),
-            None => false,
+            None => Worth::InVain,
         }
     }
 
-    /// Takes a frame that was read. Where it brings a block, what waited for that block comes next. Whether it was of use, or
-    /// cost nothing: it was lost unchecked, or taken, or waits for a block. A proposal is of use where it finds a vote.
+    /// Takes a frame that was read. Where it brings a block, what waited for that block comes next. It is of use where
+    /// it was lost unchecked, or taken, or waits for a block. A proposal of another view is of use where it finds a vote; one of the
+    /// own view always, since its leader may have to climb above what was voted for.
     fn take_read<R: Wait + Clock, S: Steps>(
         &mut self,
         rt: &R,
         steps: &mut S,
         share: &mut Share,
         arrived: &Arrived<'_>,
-    ) -> bool
+    ) -> Worth
         ensures { HasGrown share.old share.new }
     {
-        if let Some(asker) = arrived.asker() {
-            self.take_question(rt, steps, share, asker, arrived);
-            return true;
+        if let Some(worth) = self.take_question(rt, steps, share, arrived) {
+            return worth;
         }
         if self.is_out_of_reach(arrived)
             || self.is_late(rt, arrived)
             || !self.lets_in(rt, arrived)
         {
-            return true;
+            return Worth::OfUse;
         }
         match self.bring(rt, steps, share, arrived) {
-            Ok(votes) => {
+            Ok(voted) => {
                 self.taken(rt, steps, share, arrived);
-                votes || arrived.proposed_in().is_none()
+                if voted.is_none() && self.is_elsewhere(arrived) {
+                    Worth::InVain
+                } else {
+                    Worth::OfUse
+                }
             }
             Err(Fault::UnknownParent) => {
                 self.take_later(rt, steps, share, arrived);
-                true
+                Worth::OfUse
             }
-            Err(_) => false,
+            Err(_) => Worth::InVain,
         }
     }
 
@@ -383,6 +388,15 @@ impl<'a, G: Gate, O: Outgoing + Questioned + Recording> Worker<'a, G, O> {
         self.room.has_news();
         if let (true, Some(block)) = (self.asks(), block) {
             self.out.close(rt, block);
+        }
+    }
+
+    /// Whether a frame is a proposal of another view than the replica's, and than the next: the view was seen at the last look.
+    fn is_elsewhere(&self, arrived: &Arrived<'_>) -> bool {
+        let own = self.out.view().0;
+        match arrived.proposed_in() {
+            Some(view) => view.0 < own || view.0 > own.saturating_add(1),
+            None => false,
         }
     }
 

@@ -189,7 +189,7 @@ impl<'a, G: Gate, O: Outgoing + Questioned + Recording> Worker<'a, G, O> {
             let Some(bytes) = self.own.take() else {
                 break;
             };
-            let _was_of_use = self.take(rt, steps, share, OWN, &bytes);
+            let _worth = self.take(rt, steps, share, OWN, &bytes);
         }
     }
 

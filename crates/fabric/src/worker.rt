@@ -11,6 +11,7 @@ use crate::questioned::Questioned;
 use crate::queue::Question;
 use crate::recording::Recording;
 use crate::waiting::WaitingRoom;
+use crate::worth::Worth;
 use admission::Input;
 use asking::Ask;
 use authenticators::VerifyingKeyring;
@@ -336,8 +337,8 @@ impl<'a, G: Gate, O: Outgoing + Questioned + Recording> Worker<'a, G, O> {
                     from,
                     bytes,
                 } => {
-                    let was_of_use = self.take(rt, steps, &mut share, number, &bytes);
-                    if let (false, Some(from)) = (was_of_use, from) {
+                    let worth = self.take(rt, steps, &mut share, number, &bytes);
+                    if let (Worth::InVain, Some(from)) = (worth, from) {
                         self.inbox.charge(rt, from, bytes.len());
                     }
                 }

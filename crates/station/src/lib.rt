@@ -14,6 +14,7 @@ mod passed_over;
 mod recorder;
 mod sights;
 mod station;
+mod supplied;
 mod terms;
 mod timed;
 mod trouble;

@@ -13,8 +13,10 @@ use std::alloc::{AllocError, Global};
 use std::sync::atomic::AtomicU64;
 use std::sync::atomic::Ordering::SeqCst;
 use std::sync::{Mutex, Wait};
+use std::thread;
 use std::time::{Clock, Duration, Instant};
 use suspicion::ReplicaSet;
+use tuning::LIAR_REST_MICROS;
 
 /// What a worker of a replica that lies begins with.
 #[derive(Drop)]
@@ -44,6 +46,8 @@ pub(crate) struct LyingOut<'a, 'k, C, P> {
     beside: Beside,
     /// How many answers or doubts it told.
     told: AtomicU64,
+    /// How many of its frames the post hadn't carried when it looked last.
+    refused: AtomicU64,
 }
 
 impl<'a, 'k, C: Clock, P: Post> LyingOut<'a, 'k, C, P> {
@@ -70,6 +74,7 @@ impl<'a, 'k, C: Clock, P: Post> LyingOut<'a, 'k, C, P> {
             station,
             beside,
             told: AtomicU64::new(0),
+            refused: AtomicU64::new(0),
         }
     }
 
@@ -119,6 +124,24 @@ impl<'a, 'k, C: Clock, P: Post> LyingOut<'a, 'k, C, P> {
         Ok(())
     }
 
+    /// Whether others didn't take something that it sent since it looked last.
+    fn is_turned_away(&self) -> bool {
+        let refused = self.post.refused(self.station.number());
+        self.refused.swap(refused, SeqCst) != refused
+    }
+
+    /// Sends all, until others don't take something: then it waits a moment, as at a socket that is full, and the rest is lost. Else
+    /// its thread would take the processors of those that it lies to, which elsewhere aren't on its machine.
+    fn send_all<R: Wait>(&self, rt: &R, from: ReplicaId, out: Vec<Sending>) {
+        for sending in out {
+            self.post.send(rt, from, sending);
+            if self.is_turned_away() {
+                thread::sleep(self.clock, Duration::from_micros(LIAR_REST_MICROS));
+                break;
+            }
+        }
+    }
+
     /// Whether the liar has fallen silent.
     fn is_silent(&self) -> bool {
         let passed = self.start.and_then(|start| start.elapsed(self.clock).ok());
@@ -132,7 +155,7 @@ impl<'a, 'k, C: Clock, P: Post> LyingOut<'a, 'k, C, P> {
 /// What the liar hands to its own replica comes over that one's link, as a client's frames do.
 impl<C: Clock, P: Post> Outgoing for LyingOut<'_, '_, C, P> {
     fn send<R: Wait>(&self, rt: &R, from: ReplicaId, sending: Sending) {
-        if self.is_silent() {
+        if self.is_silent() || self.station.inbox().is_ending(rt) {
             return;
         }
         self.doubt_falsely(rt, &sending);
@@ -144,9 +167,7 @@ impl<C: Clock, P: Post> Outgoing for LyingOut<'_, '_, C, P> {
                 let _lost = self.station.inbox().hand_in_frame(rt, &AS_A_CLIENT, bytes);
             }
         }
-        for sending in out {
-            self.post.send(rt, from, sending);
-        }
+        self.send_all(rt, from, out);
     }
 }
 

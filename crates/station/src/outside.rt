@@ -78,12 +78,14 @@ impl<P: Post> Recording for Outside<'_, '_, P> {
         }
     }
 
-    fn may_supply<R: Wait + Clock>(&self, rt: &R, to: ReplicaId) -> bool {
-        self.station.recorder().may_supply(to, self.now(rt))
+    fn may_supply<R: Wait + Clock>(&self, rt: &R, to: ReplicaId, block: &Digest) -> bool {
+        let blocks = self.station.recorder().blocks();
+        blocks.may_supply(to, block, self.now(rt))
     }
 
-    fn supplied<R: Wait + Clock>(&self, rt: &R, to: ReplicaId) {
-        self.station.recorder().supplied(to, self.now(rt));
+    fn supplied<R: Wait + Clock>(&self, rt: &R, to: ReplicaId, block: &Digest) {
+        let blocks = self.station.recorder().blocks();
+        blocks.supplied(to, block, self.now(rt));
     }
 
     fn awaits<R: Wait>(&self, rt: &R, question: &Question) -> bool {

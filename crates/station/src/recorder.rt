@@ -1,6 +1,7 @@
 //! What a replica recorded for others.
 
 use crate::given::Given;
+use crate::supplied::Supplied;
 use bytes::Bytes;
 use catching_up::Question;
 use fabric::Answer;
@@ -9,7 +10,7 @@ use frames_view::{CoreView, Frame, NewViewView};
 use ids::{Config, Digest, Height, ReplicaId};
 use std::alloc::{AllocError, Global};
 use std::sync::{Mutex, Wait};
-use tuning::{ANSWER_BYTES_A_MILLI, BLOCK_MILLIS, LEAST_ANSWER_MILLIS, MOST_CATCH_UP_BYTES};
+use tuning::{ANSWER_BYTES_A_MILLI, LEAST_ANSWER_MILLIS, MOST_CATCH_UP_BYTES};
 
 /// A number of bytes as what memory is counted in.
 fn size_of(bytes: u64) -> usize {
@@ -29,7 +30,7 @@ pub(crate) struct Recorder {
     frames: Mutex<FrameRecord>,
     announcements: Mutex<Announcements>,
     answers: Given,
-    blocks: Given,
+    blocks: Supplied,
 }
 
 impl Recorder {
@@ -44,7 +45,7 @@ impl Recorder {
             frames: Mutex::new(FrameRecord::new(alloc, most)),
             announcements: Mutex::new(Announcements::new(alloc, config)?),
             answers: Given::none(alloc, config)?,
-            blocks: Given::none(alloc, config)?,
+            blocks: Supplied::none(alloc, config)?,
         })
     }
 
@@ -101,14 +102,9 @@ impl Recorder {
         self.answers.give(from, now, cost_of(bytes))
     }
 
-    /// Whether a replica that asks for a block now is given it.
-    pub(crate) fn may_supply(&self, to: ReplicaId, now: u64) -> bool {
-        self.blocks.may_give(to, now)
-    }
-
-    /// A replica was given a block.
-    pub(crate) fn supplied(&self, to: ReplicaId, now: u64) {
-        let _counted = self.blocks.give(to, now, BLOCK_MILLIS);
+    /// What others were given that asked for blocks.
+    pub(crate) fn blocks(&self) -> &Supplied {
+        &self.blocks
     }
 
     /// The answer to a question, of no more bytes than a correct replica asks for. The bytes of frames are shared.
