@@ -102,16 +102,8 @@ where
         number = link.number;
         let began = Instant::now(rt).ok();
         let mut reader = Counted::new(&link.stream);
-        let (alloc, config) = (rt.alloc(), wires.config());
-        let end = receive(
-            rt,
-            alloc,
-            config,
-            &link.peer,
-            &mut reader,
-            &mut rows,
-            &link.is_over,
-        );
+        let (config, is_over) = (wires.config(), &link.is_over);
+        let end = receive(rt, config, &link.peer, &mut reader, &mut rows, is_over);
         slot.note_end(rt, end, wires.millis(rt));
         slot.leave(rt, &link);
         backoff.ended(since(rt, began));

@@ -10,7 +10,6 @@ use crate::end::End;
 use connection::Counted;
 use handshake::Peer;
 use ids::{Config, PartyId};
-use std::alloc::Global;
 use std::io::Read;
 use std::sync::atomic::AtomicBool;
 use std::sync::atomic::Ordering::SeqCst;
@@ -78,38 +77,10 @@ fn finds_room<R: Clock, A: Arrivals>(rt: &R, rows: &A, is_over: &AtomicBool) -> 
     false
 }
 
-/// Reads to the end, with memory that was taken for it. Says why nothing more is read.
-fn receive_all<R: Clock, D: Read, A: Arrivals>(
-    rt: &R,
-    reader: &mut Counted<D>,
-    piece: &mut [u8],
-    feed: &mut Feed,
-    from: PartyId,
-    rows: &mut A,
-    is_over: &AtomicBool,
-) -> End
-    requires unfinished { IsUnfinished feed.old.longest feed.old.held }
-    requires piece { length piece.old ≤ feed.old.piece }
-    ensures read { ReceivesMore A.takes from rows.old rows.new (D.remaining reader.old.device)
-        (D.remaining reader.new.device) feed.old feed.new }
-    ensures left { IsLeft feed.old.longest feed.new.held result }
-{
-    for _ in 0..u64::MAX {
-        if !finds_room(rt, rows, is_over) {
-            break;
-        }
-        if let Err(end) = receive_some(reader, piece, feed, from, rows) {
-            return end;
-        }
-    }
-    End::Closed
-}
-
 /// Reads a peer's connection to its end, and hands on each frame that comes whole, in order, as the party's that the
 /// handshake named. Says why nothing more is read. While there is no room for what a read brings, nothing is read.
-pub fn receive<R: Clock, D: Read, A: Arrivals>(
+pub fn receive<R: Clock + AllocGlobal, D: Read, A: Arrivals>(
     rt: &R,
-    alloc: Global,
     config: &Config,
     peer: &Peer,
     reader: &mut Counted<D>,
@@ -119,19 +90,20 @@ pub fn receive<R: Clock, D: Read, A: Arrivals>(
     ensures { Receives A.takes peer.now.party rows.old rows.new (D.remaining reader.old.device)
         (D.remaining reader.new.device) (longest_item config.now) result }
 {
+    let (alloc, from) = (rt.alloc(), peer.party());
     let Ok(mut feed) = Feed::new(alloc, config, WIRE_PIECE_BYTES) else {
         return End::Memory;
     };
     let Ok(mut piece) = vec![in alloc; 0; WIRE_PIECE_BYTES] else {
         return End::Memory;
     };
-    receive_all(
-        rt,
-        reader,
-        &mut piece,
-        &mut feed,
-        peer.party(),
-        rows,
-        is_over,
-    )
+    for _ in 0..u64::MAX {
+        if !finds_room(rt, rows, is_over) {
+            break;
+        }
+        if let Err(end) = receive_some(reader, &mut piece, &mut feed, from, rows) {
+            return end;
+        }
+    }
+    End::Closed
 }
