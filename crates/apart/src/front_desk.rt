@@ -15,6 +15,7 @@ use tuning::LOOK_MILLIS;
 #[derive(Drop)]
 pub(crate) struct Desk<'d, R> {
     pub(crate) clerk: Clerk<'d, R>,
+    pub(crate) requests: &'d WireRequests,
     pub(crate) front: u8,
     /// Each how many seconds a line of status is logged. None for no lines.
     pub(crate) each: Option<u64>,
@@ -39,12 +40,8 @@ impl<'d, R: Files + AllocGlobal> Desk<'d, R> {
     }
 
     /// Looks after numbers and the log again and again, until all is done.
-    pub(crate) fn keep<W: Wait + Clock + Log>(
-        mut self,
-        rt: &W,
-        requests: &WireRequests,
-        is_done: &AtomicBool,
-    ) {
+    pub(crate) fn keep<W: Wait + Clock + Log>(mut self, rt: &W, is_done: &AtomicBool) {
+        let requests = self.requests;
         for looks in 1..u64::MAX {
             if is_done.load(SeqCst) {
                 break;

@@ -8,6 +8,7 @@ use crate::peers::{endpoint, new_life, replicas};
 use crate::refusal::Refusal;
 use crate::replies::Replies;
 use crate::wire_requests::WireRequests;
+use client_accept::Session;
 use client_seats::{ClientSeat, seat};
 use deployment::Deployment;
 use fabric::{ClientEnd, ClientLinks};
@@ -82,13 +83,14 @@ fn seats<R: Wait + Clock + AllocGlobal + Clone + Drop>(
     place: Front,
     ends: Vec<ClientEnd>,
 ) -> Result<Seats<ClientSeat<R, WireRequests>>, Refusal> {
-    let alloc = rt.alloc();
+    let (alloc, config) = (rt.alloc(), keys.config());
     let mut seats = Vec::new(alloc);
-    for (client, frames) in (place.first.0..keys.config().clients()).zip(ends) {
+    for (client, frames) in (place.first.0..config.clients()).zip(ends) {
         let client = ClientId(client);
         let keyring = keys.keyring(alloc, client.into())?;
         seats.reserve(1)?;
-        let seated = seat(rt, requests, keyring, client, behind, frames, false)?;
+        let session = Session::resume(alloc, config, client, keyring, behind);
+        let seated = seat(rt, requests, session, frames, false)?;
         seats.push_reserved(seated);
     }
     Ok(Seats::new(alloc, seats)?)
@@ -119,7 +121,6 @@ fn rows<'a, R: Wait>(
 /// Keeps a front's wires, and serves so many connections, while this thread sits at its desk.
 fn serve<R>(
     rt: &R,
-    requests: &WireRequests,
     desk: Desk<'_, R>,
     rows: Vec<Replies<'_, R>>,
     listener: &TcpListener,
@@ -141,7 +142,7 @@ where
         + Net<Listener = TcpListener, Stream = TcpStream>,
 {
     let is_done = AtomicBool::new(false);
-    let (is_done, wires) = (&is_done, requests.wires());
+    let (is_done, wires) = (&is_done, desk.requests.wires());
     thread::scope(thread::scope_env(), rt, |scope| {
         let wired = scope.spawn(move || wires::run(rt, wires, None, rows));
         let served = scope.spawn(move || {
@@ -153,7 +154,7 @@ where
             wires.close(rt);
             return Err(Fault::Memory);
         };
-        desk.keep(rt, requests, is_done);
+        desk.keep(rt, is_done);
         wires.close(rt);
         served.join(rt)
     })
@@ -202,8 +203,9 @@ where
     let seats = seats(rt, &requests, behind, keys, place, ends)?;
     let desk = Desk {
         clerk,
+        requests: &requests,
         front: terms.number,
         each: terms.watch,
     };
-    Ok(serve(rt, &requests, desk, rows, listener, &seats, terms.most)?)
+    Ok(serve(rt, desk, rows, listener, &seats, terms.most)?)
 }

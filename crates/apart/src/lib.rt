@@ -25,4 +25,4 @@ pub use attending::ask;
 pub use front_process::{FrontTerms, run_front};
 pub use fronts::holder_of_front;
 pub use refusal::Refusal;
-pub use replica_process::run_replica;
+pub use replica_process::{ReplicaTerms, run_replica};

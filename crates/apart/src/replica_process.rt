@@ -39,19 +39,30 @@ use wires::{Pace, PeerTerms, Wires};
 /// All that a replica says stands for one number.
 const ITS_WORD: Seq = Seq(1);
 
+/// How a replica is to run.
+#[derive(Clone, Copy, Debug)]
+pub struct ReplicaTerms {
+    /// Which replica of the deployment it is.
+    pub number: ReplicaId,
+    /// How its station is to run.
+    pub station: Terms,
+}
+
 /// The wires of a replica's process.
 #[derive(Drop)]
-struct Wired {
+struct Wired<'a> {
     wires: Wires,
+    /// Where peers come in.
+    listener: &'a TcpListener,
     peers: Vec<PeerTerms>,
     fronts: Fronts,
 }
 
 /// What lies around the station of a replica's process.
 #[derive(Drop)]
-struct Around {
+struct Around<'a> {
     number: ReplicaId,
-    wired: Wired,
+    wired: Wired<'a>,
     inbox: Arc<Inbox>,
     sights: Sights,
     stop: AtomicBool,
@@ -61,12 +72,12 @@ struct Around {
 #[derive(Drop)]
 struct Place<'p, 'm> {
     station: Station<'m>,
-    around: &'p Around,
+    around: &'p Around<'p>,
     /// Each how many seconds a line tells how it goes. None for no lines.
     each: Option<u64>,
 }
 
-impl Wired {
+impl Wired<'_> {
     /// Who is at the other end of a peer's wire.
     fn sender_of(&self, peer: PartyId) -> Sender {
         match self.fronts.number_of(peer) {
@@ -76,7 +87,7 @@ impl Wired {
     }
 }
 
-impl Around {
+impl Around<'_> {
     /// The row of each peer, in their order.
     fn rows<'p, R: Wait>(&'p self, rt: &'p R, alloc: Global) -> Result<Vec<Row<'p, R>>, Refusal> {
         let mut rows = Vec::new(alloc);
@@ -154,7 +165,6 @@ where
 fn run_all<R>(
     rt: &R,
     place: &Place<'_, '_>,
-    listener: &TcpListener,
     rows: Vec<Row<'_, R>>,
     workers: Vec<WorkerStart>,
     watcher: Watcher<'_>,
@@ -175,7 +185,7 @@ where
     let around = place.around;
     let post = around.post(rt.alloc());
     let post = &post;
-    let wires = &around.wired.wires;
+    let (wires, listener) = (&around.wired.wires, around.wired.listener);
     thread::scope(thread::scope_env(), rt, |scope| {
         let linked = scope.spawn(move || wires::run(rt, wires, Some(listener), rows));
         let started = start_station(rt, scope, place, post, workers, watcher);
@@ -231,14 +241,14 @@ fn begin<R: AllocGlobal + RandomSource + Files>(
 }
 
 /// The wires of a replica's process.
-fn wire<R: AllocGlobal + Clock + Net>(
+fn wire<'a, R: AllocGlobal + Clock + Net>(
     rt: &R,
     deployment: &Deployment<'_>,
     keys: &HeldKeys,
     number: ReplicaId,
     life: [u8; 16],
-    listener: &TcpListener,
-) -> Result<Wired, Refusal> {
+    listener: &'a TcpListener,
+) -> Result<Wired<'a>, Refusal> {
     let alloc = rt.alloc();
     let fronts = Fronts::of(alloc, deployment)?;
     let mut peers = replicas(rt, deployment, Some(number))?;
@@ -247,18 +257,19 @@ fn wire<R: AllocGlobal + Clock + Net>(
     let wires = Wires::new(rt, endpoint, Pace::usual(), &peers, Some(listener))?;
     Ok(Wired {
         wires,
+        listener,
         peers,
         fronts,
     })
 }
 
 /// What lies around the station of a replica, at these wires.
-fn surrounded(
+fn surrounded<'a>(
     alloc: Global,
     keys: &HeldKeys,
     number: ReplicaId,
-    wired: Wired,
-) -> Result<Around, Refusal> {
+    wired: Wired<'a>,
+) -> Result<Around<'a>, Refusal> {
     let config = keys.config();
     let inbox = Inbox::new(alloc, config, wired.fronts.len())?;
     Ok(Around {
@@ -273,9 +284,8 @@ fn surrounded(
 /// Runs a station amid what lies around it, until its replica stops. Why it did.
 fn run_station<R>(
     rt: &R,
-    around: &Around,
+    around: &Around<'_>,
     keyring: &ReplicaKeyring,
-    listener: &TcpListener,
     attendant: &Attendant<'_>,
     terms: &Terms,
 ) -> Result<Option<Fault>, Refusal>
@@ -302,7 +312,7 @@ where
         each: terms.watch,
     };
     let rows = around.rows(rt, alloc)?;
-    let fault = run_all(rt, &place, listener, rows, workers, watcher, attendant);
+    let fault = run_all(rt, &place, rows, workers, watcher, attendant);
     let kept = attendant.end(rt, &place.station);
     match (fault, kept) {
         (None, Err(refusal)) => Err(refusal),
@@ -319,10 +329,9 @@ pub fn run_replica<R>(
     rt: &R,
     deployment: &Deployment<'_>,
     keys: &HeldKeys,
-    number: ReplicaId,
+    terms: ReplicaTerms,
     state: &str,
     listener: &TcpListener,
-    terms: Terms,
 ) -> Result<Option<Fault>, Refusal>
 where
     R: Threads
@@ -336,12 +345,12 @@ where
         + Files<File = File>
         + Net<Listener = TcpListener, Stream = TcpStream>,
 {
-    let alloc = rt.alloc();
+    let (alloc, number) = (rt.alloc(), terms.number);
     let _held = hold(rt, state)?;
     let keyring = keys.replica_keyring(alloc, number)?.remembering(alloc)?;
     let life = begin(rt, PartyId::from(number), state)?;
     let wired = wire(rt, deployment, keys, number, life, listener)?;
     let around = surrounded(alloc, keys, number, wired)?;
     let attendant = Attendant::new(rt, state, PartyId::from(number));
-    run_station(rt, &around, &keyring, listener, &attendant, &terms)
+    run_station(rt, &around, &keyring, &attendant, &terms.station)
 }

@@ -3,7 +3,7 @@
 use crate::deployed::{Deployed, directory};
 use crate::key_texts::key_text;
 use anyhow::{Context, Result};
-use apart::{FrontTerms, Refusal, ask, holder_of_front, run_front, run_replica};
+use apart::{FrontTerms, Refusal, ReplicaTerms, ask, holder_of_front, run_front, run_replica};
 use deployment::Deployment;
 use ids::{Fault, ReplicaId};
 use key_file::{HeldKeys, Holder};
@@ -66,16 +66,11 @@ where
         .replicas
         .get(usize::from(number))
         .context("no such replica")?;
-    let terms = terms(RandomState::new(rt)?);
-    Ok(run_replica(
-        rt,
-        &deployment,
-        &keys,
-        replica,
-        state.as_str(),
-        listener,
-        terms,
-    ))
+    let terms = ReplicaTerms {
+        number: replica,
+        station: terms(RandomState::new(rt)?),
+    };
+    Ok(run_replica(rt, &deployment, &keys, terms, state.as_str(), listener))
 }
 
 /// How a replica ended.

@@ -6,6 +6,7 @@ ghost use Rattle.ids.specs.declared.fault.Fault.TheVariants.{Memory, NoSuchParty
 ghost use Rattle.client_seats.specs.Seating.{seated, sits};
 
 use crate::client_seat::{ClientSeat, seat};
+use client_accept::Session;
 use fabric::{ClientEnd, Requests};
 use ids::{ClientId, Fault, Seq};
 use key_file::PairKeys;
@@ -26,17 +27,18 @@ pub fn seats<R: Wait + Clock + AllocGlobal + Clone + Drop, Q: Requests + Drop>(
         ≡ map (seated keys.now liars) (range_with_len 0 keys.now.sizes.clients)) }
     ensures refused { OnErr result ((result ≡ Err Memory) ⊎ (result ≡ Err NoSuchParty)) }
 {
-    let alloc = rt.alloc();
+    let (alloc, config) = (rt.alloc(), keys.config());
     let mut ends = ends.into_iter();
     let mut seats = Vec::new(alloc);
-    for number in 0..keys.config().clients() {
+    for number in 0..config.clients() {
         let Some(frames) = ends.next() else {
             return Err(Fault::NoSuchParty);
         };
         seats.reserve(1)?;
         let (client, lies) = (ClientId(number), number < liars);
         let keyring = keys.keyring(alloc, client.into())?;
-        let seated = seat(rt, requests, keyring, client, Seq(0), frames, lies)?;
+        let session = Session::resume(alloc, config, client, keyring, Seq(0));
+        let seated = seat(rt, requests, session, frames, lies)?;
         seats.push_reserved(seated);
     }
     Seats::new(alloc, seats)

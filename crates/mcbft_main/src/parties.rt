@@ -1,7 +1,7 @@
 //! What the program does as one party of a deployment: a replica, or a front.
 
 use crate::party_faults::PartyFault;
-use apart::{FrontTerms, holder_of_front, run_front, run_replica};
+use apart::{FrontTerms, ReplicaTerms, holder_of_front, run_front, run_replica};
 use command_line::{Files as Paths, FrontOptions, ReplicaOptions};
 use deployment::Deployment;
 use ids::{Fault, ReplicaId};
@@ -86,15 +86,11 @@ where
     let deployment = Deployment::read(rt.alloc(), &text)?;
     let keys = read_keys(rt, &deployment, Holder::Replica(number), paths)?;
     let listener = listen(rt, listen_address(options, &deployment)?)?;
-    Ok(run_replica(
-        rt,
-        &deployment,
-        &keys,
+    let terms = ReplicaTerms {
         number,
-        paths.state,
-        &listener,
-        options.terms,
-    )?)
+        station: options.terms,
+    };
+    Ok(run_replica(rt, &deployment, &keys, terms, paths.state, &listener)?)
 }
 
 /// Runs a front as the options ask, to its end. How many connections it served.

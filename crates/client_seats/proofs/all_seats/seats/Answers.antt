@@ -24,7 +24,7 @@ loop-number-preserved g c =
     let seat = c.in_ok-seated.seated in
     let own : c.in_ok-keyring.keyring ≡ keys_of_party keys (client_party c.loop-number.number) = search rules in
     let one : sits seat ≡ seated keys c.args.liars c.loop-number.number =
-    ap (λ (held : Held). (held, seat.link.lies)) c.in_ok-seated.ensures.session
+    ap (λ (held : Held). (held, seat.link.lies)) (c.in_ok-seated.ensures.session ∙ c.resume-session.ensures)
     ∙ ap (λ (own : Keys). (session_of own 0, seat.link.lies)) own
     ∙ ap (λ (lies : Bool). (session_of (keys_of_party keys (client_party c.loop-number.number)) 0, lies)) c.in_ok-seated.ensures.lies in
     seen_more sits (seated keys c.args.liars) c.reserve.new.self.items c.push_reserved.new.self.items seat
@@ -35,7 +35,7 @@ pub returns-clause-seated : goal.returns-clause-seated
 returns-clause-seated g c =
     let keys = c.args.keys.now in
     let last : c.loop-number.number ≡ keys.sizes.clients =
-    omega (arith, c.clients-number-end.ensures, ap (λ (sizes : Sizes). sizes.clients) c.config.ensures) in
+    omega (arith, c.clients-number-end.ensures, ap (λ (sizes : Sizes). sizes.clients) c.config-config.ensures) in
     IfOk-weaker c.new.result _ _
     (λ made is. ap (map sits) is ∙ c.loop-number.invariant
     ∙ ap (λ n. map (seated keys c.args.liars) (range_with_len 0 n)) last)
