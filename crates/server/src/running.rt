@@ -1,10 +1,7 @@
 //! From keys to a running deployment, and to its end.
 
-ghost use Rattle.std.specs.Prelude.{◌≡◌, ◌⊎◌, map, Err, IfOk, IfErr, OnErr, None};
-ghost use Rattle.std.specs.List.{range_with_len};
-ghost use Rattle.ids.specs.Sizes.{replicas};
+ghost use Rattle.std.specs.Prelude.{◌≡◌, ◌⊎◌, Err, IfOk, IfErr, OnErr, None};
 ghost use Rattle.ids.specs.declared.fault.Fault.TheVariants.{AcceptFailed, Memory, NoSuchParty};
-ghost use Rattle.marks.specs.Eyes.{first_eye, first_eyes};
 ghost use Rattle.server.specs.Ends.{IsEnd, IsAudited, IsNoRun};
 ghost use Rattle.station.specs.Workers.{liar_count};
 
@@ -13,11 +10,11 @@ use crate::local::Local;
 use crate::roll::Roll;
 use crate::watching::Board;
 use client_seats::{ClientSeat, seats};
-use fabric::{ClientEnd, Ends, Inbox, Links};
+use fabric::{ClientEnd, Ends, Links};
 use ids::Fault;
 use key_file::PairKeys;
 use log::{Log, warn};
-use marks::{Eye, Marks, Watcher};
+use marks::{Marks, Watcher};
 use station::{Sights, Station, Terms, WorkerStart, run_worker, stations, watch};
 use std::net::TcpListener;
 use std::sync::atomic::AtomicBool;
@@ -176,37 +173,6 @@ fn serve_at<R: Threads + Wait + Clock + Sync + Send + AllocGlobal + Log + Clone 
     }
 }
 
-/// Serves with replicas that have made no step, at these ends of the deployment's links. When all threads have
-/// ended, the replicas are judged.
-fn serve_and_judge<R: Threads + Wait + Clock + Sync + Send + AllocGlobal + Log + Clone + Drop>(
-    rt: &R,
-    keys: &PairKeys,
-    deployment: &Deployment<'_, ClientSeat<R, Local>>,
-    marks: &Marks,
-    eyes: Vec<Eye>,
-    ends: Vec<Arc<Inbox>>,
-    terms: Terms,
-) -> Result<Ended, Fault>
-    requires words { marks.now.words ≡ replicas keys.now.sizes }
-    requires eyes { eyes.items ≡ first_eyes marks.now }
-    ensures served { IfOk result (λ ended. IfOk ended.served (λ served. served ≡ terms.most)) }
-    ensures audit { IfOk result (λ ended. IsEnd keys.now.sizes (liar_count terms.liars) ended.audit) }
-    ensures audited { IfOk result (λ ended. terms.window ≡ None → IsAudited ended.audit) }
-    ensures refused { IfErr result IsNoRun }
-{
-    let (alloc, config) = (rt.alloc(), keys.config());
-    let mut eyes = eyes;
-    let watcher = Watcher::new(marks, config.n(), &mut eyes);
-    let (stations, workers) = stations(alloc, keys, marks, eyes, ends, &terms)?;
-    let room = Vec::with_capacity(alloc, stations.len())?;
-    let served = match serve_at(rt, deployment, stations.as_slice(), workers, watcher, terms) {
-        Ok(()) => Ok(terms.most),
-        Err(fault) => Err(fault),
-    };
-    let audit = judge_by_terms(stations, config, terms, room)?;
-    Ok(Ended { served, audit })
-}
-
 /// Runs replicas with these keys, and serves as many connections as the terms say that come to the
 /// listener. When all threads have ended, the replicas are judged.
 ///
@@ -226,9 +192,24 @@ pub fn run<R: Threads + Wait + Clock + Sync + Send + AllocGlobal + Log + Clone +
     ensures refused { IfErr result IsNoRun }
 {
     let (alloc, config) = (rt.alloc(), keys.config());
-    let (marks, eyes) = Marks::new(alloc, config.n())?;
+    let (marks, mut eyes) = Marks::new(alloc, config.n())?;
+    let watcher = Watcher::new(&marks, config.n(), &mut eyes);
     let (links, ends) = Links::new(alloc, config)?;
     let Ends { replicas, clients } = ends;
     let deployment = Deployment::new(rt, keys, listener, links, clients, terms.liar_clients)?;
-    serve_and_judge(rt, keys, &deployment, &marks, eyes, replicas, terms)
+    let (stations, workers) = stations(alloc, keys, &marks, eyes, replicas, &terms)?;
+    let room = Vec::with_capacity(alloc, stations.len())?;
+    let served = match serve_at(
+        rt,
+        &deployment,
+        stations.as_slice(),
+        workers,
+        watcher,
+        terms,
+    ) {
+        Ok(()) => Ok(terms.most),
+        Err(fault) => Err(fault),
+    };
+    let audit = judge_by_terms(stations, config, terms, room)?;
+    Ok(Ended { served, audit })
 }

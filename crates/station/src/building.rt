@@ -2,6 +2,7 @@
 
 ghost use Rattle.std.specs.Prelude.{◌≡◌, ◌-◌, ◌<◌, ◌⊎◌, ◌^◌, map, option_map, unwrap_or, All, Err, IfOk, OnErr, vec_len, false};
 ghost use Rattle.ids.specs.declared.fault.Fault.TheVariants.{Memory, NoSuchParty};
+ghost use Rattle.key_file.specs.KeyFile.{keys_of_party};
 ghost use Rattle.liars.specs.Lying.{new_lying};
 ghost use Rattle.station.specs.Keeping.{keep};
 ghost use Rattle.station.specs.Stations.{AllKeep, fresh, numbers_of, shared};
@@ -187,27 +188,34 @@ pub fn build_station<'a>(
     Ok((station, workers))
 }
 
-/// The station of the replica of a number, by these keys, and its workers. What they find to be right, all of them remember.
+/// The keyring of a replica that the deployment has. `Memory` is its one refusal.
+fn keyring_of(alloc: Global, keys: &PairKeys, number: ReplicaId) -> Result<ReplicaKeyring, Fault>
+    requires { number < replicas keys.now.sizes }
+    ensures made { IfOk result (λ keyring. keyring ≡ keys_of_party keys.now number) }
+    ensures memory { OnErr result (result ≡ Err Memory) }
+{
+    keys.replica_keyring(alloc, number)
+}
+
+/// The station of the keyring's replica, and its workers. What they find to be right, all of them remember.
 fn station_by<'a>(
     alloc: Global,
-    keys: &PairKeys,
-    number: ReplicaId,
+    keyring: ReplicaKeyring,
     eye: Eye,
     marks: &'a Marks,
     inbox: Arc<Inbox>,
     terms: &Terms,
 ) -> Result<(Station<'a>, Vec<WorkerStart>), Fault>
-    requires number { number < replicas keys.now.sizes }
-    requires words { marks.now.words ≡ replicas keys.now.sizes }
-    requires eye { eye ≡ first_eye marks.now number }
+    requires words { marks.now.words ≡ replicas keyring.sizes }
+    requires eye { eye ≡ first_eye marks.now keyring.party }
     ensures count { IfOk result (λ made. vec_len made.1 ≡ worker_count terms.now.workers) }
     ensures lies { IfOk result
-        (λ made. AllLieBy (liar_at terms.now.liars number) made.1.items) }
-    ensures number { IfOk result (λ made. made.0.number ≡ number) }
-    ensures keep { IfOk result (λ made. made.0.keep ≡ keep terms.now keys.now.sizes) }
+        (λ made. AllLieBy (liar_at terms.now.liars keyring.party) made.1.items) }
+    ensures number { IfOk result (λ made. made.0.number ≡ keyring.party) }
+    ensures keep { IfOk result (λ made. made.0.keep ≡ keep terms.now keyring.sizes) }
     ensures memory { OnErr result (result ≡ Err Memory) }
 {
-    let keyring = keys.replica_keyring(alloc, number)?.remembering(alloc)?;
+    let keyring = keyring.remembering(alloc)?;
     build_station(alloc, &keyring, eye, marks, inbox, terms)
 }
 
@@ -240,15 +248,8 @@ pub fn stations<'a>(
         };
         stations.reserve(1)?;
         workers.reserve(1)?;
-        let (station, its_own) = station_by(
-            alloc,
-            keys,
-            ReplicaId(number),
-            eye,
-            marks,
-            inbox,
-            terms,
-        )?;
+        let keyring = keyring_of(alloc, keys, ReplicaId(number))?;
+        let (station, its_own) = station_by(alloc, keyring, eye, marks, inbox, terms)?;
         stations.push_reserved(station);
         workers.push_reserved(its_own);
     }

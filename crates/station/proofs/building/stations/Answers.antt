@@ -2,11 +2,13 @@ use Rattle.std.proofs.Common.{rules, arith, sym, subst, ap, ◌≡◌, ◌∙◌
 use Rattle.std.proofs.lemmas.List.Elements.{All-push}
 use Rattle.std.specs.Global.{Global}
 use Rattle.std.specs.List.{range_with_len}
+use Rattle.definitions.specs.Keyrings.{Keys}
+use Rattle.key_file.specs.KeyFile.{keys_of_party}
 use Rattle.marks.specs.Eyes.{first_eye}
 use Rattle.marks.proofs.Owners.{Owners, owners_from}
 use Rattle.station.specs.Keeping.{keep}
 use Rattle.station.specs.Stations.{Station, numbers_of}
-use Rattle.station.specs.Workers.{Worker, LieFrom, worker_count}
+use Rattle.station.specs.Workers.{AllLieBy, LieFrom, Worker, liar_at, worker_count}
 use Rattle.station.proofs.Lies.{lie_more}
 use Rattle.station.proofs.Numbers.{numbers_more}
 use Rattle.station.proofs.building.stations.Goals as goal
@@ -35,6 +37,7 @@ loop-number-preserved c =
     let K : Station → Type 0 = λ station. station.keep ≡ keep c.args.terms.now c.args.keys.now.sizes in
     let count = c.loop-number.number-iterator.count in
     let here : c.in-Ok-Some.number ≡ count = search rules in
+    let own : c.in_ok-keyring.keyring ≡ keys_of_party c.args.keys.now c.in-Ok-Some.number = c.in_ok-keyring.ensures.made in
     let next : c.next.new.self.count ≡ count + 1 = search rules in
     let stands : numbers_of c.reserve.new.self.items ≡ range_with_len 0 count =
     ap numbers_of c.reserve.ensures.items ∙ c.loop-number.invariant.6 in
@@ -63,10 +66,14 @@ loop-number-preserved c =
       ),
       search rules,
       numbers_more c.reserve.new.self.items c.push_reserved.new.self.items c.in_ok-station.station count
-          c.next.new.self.count c.push_reserved.ensures.items stands (c.in_ok-station.ensures.number ∙ here) next,
+          c.next.new.self.count c.push_reserved.ensures.items stands
+          (c.in_ok-station.ensures.number ∙ ap (λ (keys : Keys). keys.party) own ∙ here) next,
       rw c.push_reserved.ensures.items
-          (All-push K _ _ (rw c.reserve.ensures.items c.loop-number.invariant.7) c.in_ok-station.ensures.keep),
+          (All-push K _ _ (rw c.reserve.ensures.items c.loop-number.invariant.7)
+          (c.in_ok-station.ensures.keep ∙ ap (λ (keys : Keys). keep c.args.terms.now keys.sizes) own)),
       lie_more c.args.terms.now.liars c.in-Ok-Some.number c.reserve-in-loop-number.new.self.items
           c.push_reserved-in-loop-number.new.self.items c.in_ok-station.its_own
-          c.push_reserved-in-loop-number.ensures.items made lie c.in_ok-station.ensures.lies,
+          c.push_reserved-in-loop-number.ensures.items made lie
+          (subst (λ (keys : Keys). AllLieBy (liar_at c.args.terms.now.liars keys.party) c.in_ok-station.its_own.items) own
+          c.in_ok-station.ensures.lies),
     )
