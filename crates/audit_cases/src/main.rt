@@ -68,7 +68,7 @@ fn tell(alloc: Global, hasher: RandomState, input: &str) -> Result<String, Fault
     let (given, asked) = split(words.next().unwrap_or(""))?;
     let fields = fields_of(alloc, given)?;
     let mut text = String::new(alloc);
-    tell_replicas(alloc, sizes, &fields, Vec::new(alloc), asked, &mut text)?;
+    tell_replicas(alloc, sizes, &fields, asked, &mut text)?;
     Ok(text)
 }
 

@@ -172,6 +172,17 @@ impl<'a> Stepped<'a> {
     }
 }
 
+impl Stepped<'_> {
+    /// The replica, for its share.
+    fn close(self, alloc: Global) -> Result<Archived, Fault> {
+        let Stepped { kept, share } = self;
+        match kept.close(vec![in alloc; share]?) {
+            Ok(closed) => Ok(closed.replica),
+            Err(_) => Err(Fault::NotAll),
+        }
+    }
+}
+
 /// The sizes and the number that a field names.
 fn named(sizes: Sizes, field: &str) -> Result<(Config, ReplicaId), Fault>
     ensures { IfOk result (λ named. named.1 < replicas named.0) }
@@ -228,55 +239,29 @@ fn first<'a>(
     Ok(Stepped { kept, share })
 }
 
-/// Adds the replica of a field, once its inputs came.
-fn push_replica<'a>(
-    alloc: Global,
-    hasher: RandomState,
-    config: Config,
-    own: ReplicaId,
-    field: &str,
-    marks: &'a Marks,
-    eyes: Vec<Eye>,
-    all_kept: Vec<Kept<'a>>,
-) -> Result<Vec<Kept<'a>>, Fault>
-    requires number { own < replicas config }
-    requires eyes { eyes.items ≡ first_eyes marks.now }
-    requires words { marks.now.words ≡ replicas config }
-{
+/// The replica of a field, once its inputs came.
+fn replica_of(alloc: Global, sizes: Sizes, field: &str) -> Result<Archived, Fault> {
+    let (config, own) = named(sizes, field)?;
     let (_, words) = field.split_once(',').unwrap_or((field, ""));
     let all = brought_by(alloc, words)?;
-    let mut stepped = first(alloc, hasher, config, own, marks, eyes)?;
+    let (marks, eyes) = Marks::new(alloc, config.n())?;
+    let mut stepped = first(alloc, sizes.hasher, config, own, &marks, eyes)?;
     let brought = stepped.bring_all(alloc, &all);
     let (stepped, ()) = beside(stepped, brought)?;
-    let mut all_kept = all_kept;
-    all_kept.push(stepped.kept)?;
-    Ok(all_kept)
+    stepped.close(alloc)
 }
 
-/// Tells what is asked of these replicas and those of the fields. Each has marks of its own, which last until that is
-/// told.
+/// Tells what is asked of the replicas of the fields.
 pub(crate) fn tell_replicas(
     alloc: Global,
     sizes: Sizes,
     fields: &[&str],
-    all_kept: Vec<Kept<'_>>,
     asked: Asked<'_>,
     text: &mut String,
 ) -> Result<(), Fault> {
-    let Some((field, others)) = fields.split_first() else {
-        return tell_asked_of(alloc, &all_kept, asked, text);
-    };
-    let (config, own) = named(sizes, field)?;
-    let (marks, eyes) = Marks::new(alloc, config.n())?;
-    let all_kept = push_replica(
-        alloc,
-        sizes.hasher,
-        config,
-        own,
-        field,
-        &marks,
-        eyes,
-        all_kept,
-    )?;
-    tell_replicas(alloc, sizes, others, all_kept, asked, text)
+    let mut all = Vec::new(alloc);
+    for field in fields {
+        all.push(replica_of(alloc, sizes, field)?)?;
+    }
+    tell_asked_of(alloc, &all, asked, text)
 }

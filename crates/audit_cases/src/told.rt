@@ -4,9 +4,8 @@ use crate::reasons::reason_of;
 use audit::{CorePlace, Reason, Verdict, WindowVerdict, check_reason, judge, judge_windows};
 use command_line::words_of;
 use ids::Fault;
-use locked_replica::Kept;
-use replica::{Replica, Whole};
-use server::judge_kept;
+use replica::{Archived, Replica, Whole};
+use server::judge_all;
 use std::alloc::Global;
 
 /// What is asked of replicas.
@@ -103,10 +102,10 @@ fn tell_windows(replicas: &[&Replica], text: &mut String) -> Result<(), Fault> {
 }
 
 /// The replicas with their archives. None of them was pruned.
-fn whole_of<'b>(alloc: Global, replicas: &'b [Kept<'_>]) -> Result<Vec<Whole<'b>>, Fault> {
+fn whole_of<'b>(alloc: Global, replicas: &'b [Archived]) -> Result<Vec<Whole<'b>>, Fault> {
     let mut all = Vec::new(alloc);
-    for kept in replicas {
-        all.push(kept.replica().whole().ok_or(Fault::Pruned)?)?;
+    for archived in replicas {
+        all.push(archived.whole().ok_or(Fault::Pruned)?)?;
     }
     Ok(all)
 }
@@ -121,17 +120,17 @@ fn lent<'b, 'a>(alloc: Global, replicas: &'b [Whole<'a>]) -> Result<Vec<&'b Whol
 }
 
 /// References to replicas, without their archives.
-fn plain<'b>(alloc: Global, replicas: &'b [Kept<'_>]) -> Result<Vec<&'b Replica>, Fault> {
+fn plain<'b>(alloc: Global, replicas: &'b [Archived]) -> Result<Vec<&'b Replica>, Fault> {
     let mut plain = Vec::new(alloc);
-    for kept in replicas {
-        plain.push(kept.replica().replica())?;
+    for archived in replicas {
+        plain.push(archived.replica())?;
     }
     Ok(plain)
 }
 
 /// Tells the words with which `mcbft` would end where these are its replicas.
-fn tell_words(replicas: &[Kept<'_>], text: &mut String) -> Result<(), Fault> {
-    match judge_kept(replicas) {
+fn tell_words(replicas: &[Archived], text: &mut String) -> Result<(), Fault> {
+    match judge_all(replicas) {
         Ok(audit) => text.push_str(words_of(&audit))?,
         Err(fault) => write!(text, "{}", fault.number())?,
     }
@@ -141,7 +140,7 @@ fn tell_words(replicas: &[Kept<'_>], text: &mut String) -> Result<(), Fault> {
 /// Tells what is asked of replicas.
 pub(crate) fn tell_asked_of(
     alloc: Global,
-    replicas: &[Kept<'_>],
+    replicas: &[Archived],
     asked: Asked<'_>,
     text: &mut String,
 ) -> Result<(), Fault> {

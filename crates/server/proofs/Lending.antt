@@ -12,13 +12,12 @@ use Rattle.definitions.specs.Digests.{NoCollision}
 use Rattle.definitions.specs.WindowAudit.{WindowsShow}
 use Rattle.audit_ground.specs.Law.{KnownTo}
 use Rattle.replica.specs.Steps.{Held}
-use Rattle.locked_replica.specs.Kept.{KeptState}
 use Rattle.audit.specs.Judged.{judged, AreEnough}
 use Rattle.audit.specs.Verdicts.{verdict_of, window_verdict_of}
 use Rattle.audit.specs.declared.verdict.Verdict.{Verdict}
 use Rattle.audit.specs.declared.verdict.WindowVerdict.{WindowVerdict}
 use Rattle.audit.specs.declared.verdict.WindowVerdict.TheVariants.{Agree}
-use Rattle.server.specs.Ends.{IsOfAudit, IsOfWindows, AreFew, Shows, AreLent, held_of, all_of}
+use Rattle.server.specs.Ends.{IsOfAudit, IsOfWindows, AreFew, Shows, AreLent}
 
 -- what stands at a place of a row, where something does
 abbrev pub StandsAt : List (Option Held) → ℕ → Bor Held → Type 0
@@ -58,18 +57,18 @@ shows_all row replicas few long each = record {
       ∙ ap Some (each k None (omega arith) (omega (arith, lt, few)));
 }
 
--- what stands at a place of kept replicas
-abbrev pub IsAt : List KeptState → ℕ → Bor Held → Type 0
-IsAt kept k lent = IfSome (slice_get kept k) (λ one. lent.now ≡ held_of one)
+-- what stands at a place of replicas
+abbrev pub IsAt : List Held → ℕ → Bor Held → Type 0
+IsAt all k lent = IfSome (slice_get all k) (λ one. lent.now ≡ one)
 
--- what was filled from kept replicas lends them
-pub all_are_lent : (lent : List (Bor Held)) (kept : List KeptState) → length kept ≤ length lent
-    → ((k : ℕ) (d : Bor Held) → k < length kept → IsAt kept k (slice_index_or lent k d))
-    → AreLent (all_of kept) (take (length kept) lent)
+-- what was filled from replicas lends them
+pub all_are_lent : (lent : List (Bor Held)) (all : List Held) → length all ≤ length lent
+    → ((k : ℕ) (d : Bor Held) → k < length all → IsAt all k (slice_index_or lent k d))
+    → AreLent all (take (length all) lent)
 all_are_lent xs [] le each = refl
 all_are_lent [] (r ∷ rs) le each = absurd (omega (arith, le))
 all_are_lent (x ∷ xs) (r ∷ rs) le each =
-    cons_same x.now (held_of r) _ _ (each 0 x (omega arith))
+    cons_same x.now r _ _ (each 0 x (omega arith))
     (all_are_lent xs rs (omega (arith, le)) (λ k d lt. each (suc k) d (omega (arith, lt))))
 
 -- what the audit answers for what is lent, it says of the replicas

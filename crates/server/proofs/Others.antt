@@ -4,13 +4,13 @@ use Rattle.std.proofs.lemmas.List.{map_push}
 use Rattle.std.proofs.lemmas.List.FromFn.{map-range_with_len_more}
 use Rattle.std.specs.List.{range_with_len}
 use Rattle.ids.specs.Sizes.{Sizes}
-use Rattle.locked_replica.specs.Kept.{KeptState}
+use Rattle.replica.specs.Steps.{Held}
 use Rattle.server.specs.Ends.{AreFrom}
 
-abbrev seat : KeptState → Sizes × ℕ
+abbrev seat : Held → Sizes × ℕ
 seat one = (one.keys.sizes, one.keys.party)
 
-pub others_more : (sizes : Sizes) (first n next : ℕ) (before after : List KeptState) (one : KeptState)
+pub others_more : (sizes : Sizes) (first n next : ℕ) (before after : List Held) (one : Held)
     → after ≡ before ++ one ∷ [] → AreFrom sizes first n before
     → (one.keys.sizes ≡ sizes) × (one.keys.party ≡ first + n) → next ≡ n + 1 → AreFrom sizes first next after
 others_more sizes first n next before after one made are is more =

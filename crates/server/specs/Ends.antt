@@ -12,7 +12,6 @@ use Rattle.definitions.specs.Digests.{NoCollision}
 use Rattle.definitions.specs.WindowAudit.{WindowsShow}
 use Rattle.audit_ground.specs.Law.{KnownTo}
 use Rattle.replica.specs.Steps.{Held}
-use Rattle.locked_replica.specs.Kept.{KeptState}
 use Rattle.audit.specs.Judged.{judged, AreEnough}
 use Rattle.audit.specs.Verdicts.{verdict_of, window_verdict_of}
 use Rattle.audit.specs.declared.verdict.Verdict.{Verdict}
@@ -21,21 +20,13 @@ use Rattle.audit.specs.declared.verdict.WindowVerdict.TheVariants.{Agree}
 use Rattle.server.specs.declared.ending.EndAudit.{EndAudit}
 use Rattle.server.specs.declared.ending.EndAudit.TheVariants.{Whole, Part, Windows}
 
--- what a kept replica is to those who judge it
-abbrev pub held_of : KeptState → Held
-held_of kept = record { keys = kept.keys; replica = kept.replica }
-
 -- it has all its past: it was never given leave to prune
 abbrev pub is_whole : Held → Bool
 is_whole r = not (was_pruned r.replica.chronicle)
 
--- these kept replicas, in order
-abbrev pub all_of : List KeptState → List Held
-all_of kept = map held_of kept
-
--- those of them that have all their past, in order
-abbrev pub whole_of : List KeptState → List Held
-whole_of kept = filter is_whole (all_of kept)
+-- those of these replicas that have all their past, in order
+abbrev pub whole_of : List Held → List Held
+whole_of all = filter is_whole all
 
 -- these replicas are lent, in order
 abbrev pub AreLent : List Held → List (Bor Held) → Type 0
@@ -68,26 +59,26 @@ pub record AreFew (replicas : List Held) : Type 0 where
   pub these : AreLent replicas lent
   pub few : AreEnough lent → ⊥
 
--- What is said of these kept replicas: the audit's verdict on all of them; or its verdict on those that have all
--- their past, which are so many, with what the windows of all show; or what these show alone.
-abbrev pub IsEndAudit : List KeptState → EndAudit → Type 0
-IsEndAudit kept (Whole verdict) = (length (whole_of kept) ≡ length kept) × IsOfAudit (whole_of kept) verdict
-IsEndAudit kept (Part count verdict windows) =
-    (length (whole_of kept) ≡ count) × (count < length kept) × IsOfAudit (whole_of kept) verdict
-    × IsOfWindows (all_of kept) windows
-IsEndAudit kept (Windows windows) = AreFew (whole_of kept) × IsOfWindows (all_of kept) windows
+-- What is said of these replicas: the audit's verdict on all of them; or its verdict on those that have all their
+-- past, which are so many, with what the windows of all show; or what these show alone.
+abbrev pub IsEndAudit : List Held → EndAudit → Type 0
+IsEndAudit all (Whole verdict) = (length (whole_of all) ≡ length all) × IsOfAudit (whole_of all) verdict
+IsEndAudit all (Part count verdict windows) =
+    (length (whole_of all) ≡ count) × (count < length all) × IsOfAudit (whole_of all) verdict
+    × IsOfWindows all windows
+IsEndAudit all (Windows windows) = AreFew (whole_of all) × IsOfWindows all windows
 
--- kept replicas are those of a deployment of these sizes from a number on, so many, in order
-abbrev pub AreFrom : Sizes → (first count : ℕ) → List KeptState → Type 0
-AreFrom sizes first count kept =
-    map {B = Sizes × ℕ} (λ (one : KeptState). (one.keys.sizes, one.keys.party)) kept
+-- these replicas are those of a deployment of these sizes from a number on, so many, in order
+abbrev pub AreFrom : Sizes → (first count : ℕ) → List Held → Type 0
+AreFrom sizes first count all =
+    map {B = Sizes × ℕ} (λ (one : Held). (one.keys.sizes, one.keys.party)) all
     ≡ map (λ (number : ℕ). (sizes, number)) (range_with_len first count)
 
 -- it is said of all replicas of a deployment of these sizes but the first so many, which were to lie
 pub record IsEnd (sizes : Sizes) (liars : ℕ) (audit : EndAudit) : Type 0 where
-  pub kept : List KeptState
-  pub others : AreFrom sizes liars (replicas sizes - liars) kept
-  pub is : IsEndAudit kept audit
+  pub all : List Held
+  pub others : AreFrom sizes liars (replicas sizes - liars) all
+  pub is : IsEndAudit all audit
 
 -- an audit's verdict is among what is said
 abbrev pub IsAudited : EndAudit → Type 0

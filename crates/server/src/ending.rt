@@ -4,17 +4,17 @@ ghost use Rattle.std.specs.Prelude.{◌≡◌, ◌<◌, ◌≤◌, ◌-◌, ◌�
 ghost use Rattle.ids.specs.declared.fault.Fault.TheVariants.{TooFew};
 ghost use Rattle.ids.specs.declared.limits.TheConstants.{MOST_REPLICAS};
 ghost use Rattle.ids.specs.Sizes.{replicas};
-ghost use Rattle.server.specs.Ends.{AreFrom, IsEnd, IsEndAudit, IsAudited, AreFew, all_of};
+ghost use Rattle.server.specs.Ends.{AreFrom, IsEnd, IsEndAudit, IsAudited, AreFew};
 ghost use Rattle.station.specs.Workers.{liar_count};
 
 use crate::judging::{count_whole, judge_shown, judge_whole};
 use audit::{Verdict, WindowVerdict};
 use ids::{Config, Fault, MOST_REPLICAS};
-use locked_replica::Kept;
+use replica::Archived;
 use station::{Station, Terms};
 
 /// Room for the replicas of all stations, taken before a thread begins.
-pub(crate) type Room<'a> = Vec<Kept<'a>>;
+pub(crate) type Room = Vec<Archived>;
 
 /// What is said of the replicas of a deployment at its end.
 #[derive(Clone, Copy, Debug)]
@@ -33,23 +33,23 @@ pub enum EndAudit {
     Windows(WindowVerdict),
 }
 
-/// What is said of kept replicas: all of them are judged, none is left out.
+/// What is said of replicas: all of them are judged, none is left out.
 ///
 /// An audit judges those that have all their past, that is, that were never given leave to prune; where some
 /// haven't, the windows of all are held against each other, too. It takes no memory. `TooFew` where there are
 /// fewer than a quorum, more than `MOST_REPLICAS`, one twice, or replicas of other sizes.
-pub fn judge_kept(kept: &[Kept<'_>]) -> Result<EndAudit, Fault>
-    ensures verdict { IfOk result (IsEndAudit kept.now) }
-    ensures few { OnErr result (AreFew (all_of kept.now) ⊎ (MOST_REPLICAS < length kept.now)) }
+pub fn judge_all(all: &[Archived]) -> Result<EndAudit, Fault>
+    ensures verdict { IfOk result (IsEndAudit all.now) }
+    ensures few { OnErr result (AreFew all.now ⊎ (MOST_REPLICAS < length all.now)) }
     ensures refused { OnErr result (result ≡ Err TooFew) }
 {
-    if kept.len() > MOST_REPLICAS {
+    if all.len() > MOST_REPLICAS {
         return Err(Fault::TooFew);
     }
-    let windows = judge_shown(kept)?;
-    let judged = count_whole(kept);
-    match judge_whole(kept) {
-        Ok(verdict) if judged == kept.len() => Ok(EndAudit::Whole(verdict)),
+    let windows = judge_shown(all)?;
+    let judged = count_whole(all);
+    match judge_whole(all) {
+        Ok(verdict) if judged == all.len() => Ok(EndAudit::Whole(verdict)),
         Ok(verdict) => Ok(EndAudit::Part {
             judged,
             verdict,
@@ -59,45 +59,44 @@ pub fn judge_kept(kept: &[Kept<'_>]) -> Result<EndAudit, Fault>
     }
 }
 
-/// Whether a kept replica is the one of a number, in a deployment of these sizes.
-fn is_of(kept: &Kept<'_>, config: Config, number: usize) -> bool
-    ensures { IsTrue result → (kept.now.keys.sizes ≡ config) × (kept.now.keys.party ≡ number) }
+/// Whether a replica is the one of a number, in a deployment of these sizes.
+fn is_of(archived: &Archived, config: Config, number: usize) -> bool
+    ensures { IsTrue result → (archived.now.keys.sizes ≡ config) × (archived.now.keys.party ≡ number) }
 {
-    kept.replica().replica().config() == config && usize::from(kept.number().0) == number
+    let replica = archived.replica();
+    replica.config() == config && usize::from(replica.number().0) == number
 }
 
-/// The replicas of stations at which nobody works any more, in order, without the first so many. None where one stands
-/// at another place than its own, or isn't of a deployment of these sizes.
-fn kept_of<'a>(
-    stations: Vec<Station<'a>>,
-    config: Config,
-    skipped: usize,
-    room: Room<'a>,
-) -> Option<Room<'a>>
+/// The replicas of stations at which nobody works any more, in order, without the first so many. Each comes for all its shares.
+/// None where one is missing, and where a replica stands at another place than its own, or isn't of a deployment of these sizes.
+fn closed_of(stations: Vec<Station<'_>>, config: Config, skipped: usize, room: Room) -> Option<Room>
     requires empty { room.items ≡ [] }
     requires room { vec_len stations ≤ vec_capacity room }
-    ensures { IfSome result (λ kept. AreFrom config skipped (vec_len stations.entry - skipped) kept.items) }
+    ensures { IfSome result (λ all. AreFrom config skipped (vec_len stations.entry - skipped) all.items) }
 {
-    let mut kept = room;
+    let mut all = room;
     for (number, station) in stations.into_iter().enumerate() {
         if number >= skipped {
-            let one = station.into_kept();
-            if !is_of(&one, config, number) {
+            let Ok(closed) = station.close() else {
+                return None;
+            };
+            let replica = closed.replica;
+            if !is_of(&replica, config, number) {
                 return None;
             }
-            kept.push_reserved(one);
+            all.push_reserved(replica);
         }
     }
-    Some(kept)
+    Some(all)
 }
 
 /// What is said of the replicas of a deployment's stations at which nobody works any more, without those that were to
 /// lie. `TooFew` where they can't be judged, or where an audit can't though none was to forget.
-pub(crate) fn judge_by_terms<'a>(
-    stations: Vec<Station<'a>>,
+pub(crate) fn judge_by_terms(
+    stations: Vec<Station<'_>>,
     config: Config,
     terms: Terms,
-    room: Room<'a>,
+    room: Room,
 ) -> Result<EndAudit, Fault>
     requires all { vec_len stations ≡ replicas config }
     requires empty { room.items ≡ [] }
@@ -106,8 +105,8 @@ pub(crate) fn judge_by_terms<'a>(
     ensures audited { IfOk result (λ audit. terms.window ≡ None → IsAudited audit) }
     ensures few { OnErr result (result ≡ Err TooFew) }
 {
-    let kept = kept_of(stations, config, usize::from(terms.liars()), room).ok_or(Fault::TooFew)?;
-    match judge_kept(&kept)? {
+    let all = closed_of(stations, config, usize::from(terms.liars()), room).ok_or(Fault::TooFew)?;
+    match judge_all(&all)? {
         EndAudit::Windows(_) if terms.window.is_none() => Err(Fault::TooFew),
         audit => Ok(audit),
     }

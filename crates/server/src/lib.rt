@@ -13,6 +13,6 @@ mod running;
 mod views;
 mod watching;
 
-pub use ending::{EndAudit, judge_kept};
+pub use ending::{EndAudit, judge_all};
 pub use running::{Ended, run};
 pub use station::{Liars, Terms, Workers};

@@ -29,7 +29,7 @@ use fabric::{Inbox, WaitingRoom};
 use ids::{Fault, ReplicaId};
 use key_file::PairKeys;
 use liars::Lying;
-use locked_replica::Kept;
+use locked_replica::{Kept, Share};
 use marks::{Eye, Marks};
 use replica::Archived;
 use signed_frames::WorkerKeyring;
@@ -56,24 +56,19 @@ fn liar_start(
     })
 }
 
-/// A worker of a kept replica with these keys. What the replica and its other workers found to be right it knows.
+/// A worker of a replica with these keys. What the replica and its other workers found to be right it knows.
 fn new_worker(
     alloc: Global,
     keyring: &ReplicaKeyring,
-    kept: &mut Kept<'_>,
     liars: Option<Liars>,
-) -> Result<WorkerStart, Fault>
-    ensures lies { IfOk result (λ worker. worker.lie ≡ option_map lie_by liars) }
-    ensures shared { IfOk result (λ worker. kept.new ≡ shared 1 kept.old) }
-    ensures memory { OnErr result (result ≡ Err Memory) }
+) -> Result<WorkerStart, AllocError>
+    ensures { IfOk result (λ worker. worker.lie ≡ option_map lie_by liars) }
 {
-    let share = kept.share()?;
     let liar = match liars {
         None => None,
         Some(liars) => Some(liar_start(alloc, keyring, liars)?),
     };
     Ok(WorkerStart {
-        share,
         keyring: WorkerKeyring::new(keyring.duplicate(alloc)?),
         liar,
     })
@@ -98,35 +93,45 @@ fn new_kept<'a>(
     Ok(Kept::new(alloc, replica, eye, marks))
 }
 
-/// The workers of a kept replica with these keys: as many as the terms say.
+/// The workers of a replica with these keys: as many as the terms say.
 fn new_workers(
     alloc: Global,
     keyring: &ReplicaKeyring,
-    kept: &mut Kept<'_>,
     terms: &Terms,
-) -> Result<Vec<WorkerStart>, Fault>
+) -> Result<Vec<WorkerStart>, AllocError>
     ensures count { IfOk result (λ workers. vec_len workers ≡ worker_count terms.now.workers) }
     ensures lies { IfOk result
         (λ workers. AllLieBy (liar_at terms.now.liars keyring.now.party) workers.items) }
-    ensures shared { IfOk result (λ workers. kept.new ≡ shared (worker_count terms.now.workers) kept.old) }
-    ensures memory { OnErr result (result ≡ Err Memory) }
 {
     let (count, liars) = (terms.workers.count(), terms.liar_of(keyring.replica()));
     let mut workers = Vec::with_capacity(alloc, count)?;
     for _ in 0..count {
-        workers.push_reserved(new_worker(alloc, keyring, kept, liars)?);
+        workers.push_reserved(new_worker(alloc, keyring, liars)?);
     }
     Ok(workers)
 }
 
-/// What is to stand under the lock of a replica that has made no step, and its workers.
+/// So many shares more of a kept replica.
+fn new_shares(alloc: Global, kept: &mut Kept<'_>, count: usize) -> Result<Vec<Share>, Fault>
+    ensures count { IfOk result (λ shares. vec_len shares ≡ count) }
+    ensures shared { IfOk result (λ shares. kept.new ≡ shared count kept.old) }
+    ensures memory { OnErr result (result ≡ Err Memory) }
+{
+    let mut shares = Vec::with_capacity(alloc, count)?;
+    for _ in 0..count {
+        shares.push_reserved(kept.share()?);
+    }
+    Ok(shares)
+}
+
+/// What is to stand under the lock of a replica that has made no step, and a share of it for each worker.
 fn new_guarded<'a>(
     alloc: Global,
     keyring: &ReplicaKeyring,
     eye: Eye,
     marks: &'a Marks,
     terms: &Terms,
-) -> Result<(Guarded<'a>, Vec<WorkerStart>), Fault>
+) -> Result<(Guarded<'a>, Vec<Share>), Fault>
     requires words { marks.now.words ≡ replicas keyring.now.sizes }
     requires eye { eye ≡ first_eye marks.now keyring.now.party }
     ensures kept { IfOk result (λ made.
@@ -134,12 +139,10 @@ fn new_guarded<'a>(
     ensures room { IfOk result (λ made. made.0.most_blocks ≡ unwrap_or terms.now.blocks (2 ^ 64 - 1)) }
     ensures out { IfOk result (λ made. made.0.is_out ≡ false) }
     ensures count { IfOk result (λ made. vec_len made.1 ≡ worker_count terms.now.workers) }
-    ensures lies { IfOk result
-        (λ made. AllLieBy (liar_at terms.now.liars keyring.now.party) made.1.items) }
     ensures memory { OnErr result (result ≡ Err Memory) }
 {
     let mut kept = new_kept(alloc, keyring, eye, marks, terms.hasher)?;
-    let workers = new_workers(alloc, keyring, &mut kept, terms)?;
+    let shares = new_shares(alloc, &mut kept, terms.workers.count())?;
     let guarded = Guarded {
         kept,
         door: Doorkeeper::new(alloc, keyring.config()),
@@ -147,7 +150,7 @@ fn new_guarded<'a>(
         is_out: false,
         questions: Questions::new(alloc, keyring.config()),
     };
-    Ok((guarded, workers))
+    Ok((guarded, shares))
 }
 
 /// The station of a replica that has made no step, and its workers. `Memory` is its one refusal.
@@ -169,10 +172,12 @@ pub fn build_station<'a>(
     ensures memory { OnErr result (result ≡ Err Memory) }
 {
     let (config, number) = (keyring.config(), keyring.replica());
-    let (guarded, workers) = new_guarded(alloc, keyring, eye, marks, terms)?;
+    let (guarded, shares) = new_guarded(alloc, keyring, eye, marks, terms)?;
+    let workers = new_workers(alloc, keyring, terms)?;
     let station = Station {
         number,
         locked: Mutex::new(guarded),
+        shares: Mutex::new(shares),
         keep: terms.keep(config),
         patience: terms.patience,
         ended: AtomicU64::new(0),

@@ -1,6 +1,8 @@
 //! One replica of a running deployment.
 
-ghost use Rattle.std.specs.Prelude.{◌≡◌};
+ghost use Rattle.std.specs.Prelude.{◌≡◌, IfOk};
+ghost use Rattle.locked_replica.specs.Kept.{mark_of};
+ghost use Rattle.marks.specs.Eyes.{IsOwnerOf};
 
 use crate::comeback::Comeback;
 use crate::doubts::Doubts;
@@ -11,7 +13,7 @@ use crate::trouble::TroubleSign;
 use clock::Keep;
 use fabric::{Inbox, WaitingRoom};
 use ids::{Height, ReplicaId, View};
-use locked_replica::Kept;
+use locked_replica::{Closed, NotAll, Share};
 use log::{Log, warn};
 use replica::Replica;
 use std::marker::Model;
@@ -56,6 +58,9 @@ impl Looking<'_, '_> {
 pub struct Station<'a> {
     pub(crate) number: ReplicaId,
     pub(crate) locked: Mutex<Guarded<'a>>,
+    /// The replica's shares that no worker has: all of them, before workers begin and once they have ended. There is room for
+    /// all.
+    pub(crate) shares: Mutex<Vec<Share>>,
     /// How much it keeps, if it is to forget.
     pub(crate) keep: Option<Keep>,
     /// How many times as long as on one machine views and commands may take.
@@ -89,9 +94,13 @@ impl<'a> Station<'a> {
         self.number
     }
 
-    /// The replica, out of its lock.
-    pub fn into_kept(self) -> Kept<'a> {
-        self.locked.into_inner().kept
+    /// The replica and its eye, once nobody works here any more: they come back for all its shares.
+    pub fn close(self) -> Result<Closed, NotAll<'a>>
+        ensures owner { IfOk result (λ c. IsOwnerOf c.replica.keys.party c.eye.sight
+            × (c.eye.sight.put ≡ mark_of c.replica.replica)) }
+    {
+        let kept = self.locked.into_inner().kept;
+        kept.close(self.shares.into_inner())
     }
 
     /// How far the replica is.
@@ -149,6 +158,16 @@ impl<'a> Station<'a> {
     /// Tells its workers to end, all that there are, once they have taken what was handed in before. It takes no memory.
     pub fn stop<R: Wait>(&self, rt: &R) {
         self.inbox.stop(rt);
+    }
+
+    /// A share for a worker that begins. None where each has a worker.
+    pub(crate) fn take_share<R: Wait>(&self, rt: &R) -> Option<Share> {
+        self.shares.lock(rt).pop()
+    }
+
+    /// A worker has ended, and puts its share back.
+    pub(crate) fn put_back<R: Wait>(&self, rt: &R, share: Share) {
+        let _has_room = self.shares.lock(rt).push(share);
     }
 
     /// What is wrong with frames that the replica refuses.

@@ -1,14 +1,12 @@
 //! What a replica's workers begin with.
 
 use crate::lying::LiarStart;
-use locked_replica::Share;
 use signed_frames::WorkerKeyring;
 use std::marker::Model;
 
-/// What one worker of a station begins with.
+/// What one worker of a station begins with, beside a share that it takes there.
 #[derive(Drop)]
 pub struct WorkerStart {
-    pub(crate) share: Share,
     pub(crate) keyring: WorkerKeyring,
     /// Where its replica is to lie.
     pub(crate) liar: Option<LiarStart>,

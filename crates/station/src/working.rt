@@ -28,7 +28,7 @@ fn wait_for_others<R: Wait + Clock>(rt: &R, station: &Station<'_>, stop: &Atomic
     }
 }
 
-/// Works at a station until it is told to stop. What the replica says goes out by this post.
+/// Works at a station until it is told to stop, with a share of its replica. What the replica says goes out by this post.
 pub fn run_worker<R: Wait + Clock + AllocGlobal, P: Post>(
     rt: &R,
     station: &Station<'_>,
@@ -36,15 +36,14 @@ pub fn run_worker<R: Wait + Clock + AllocGlobal, P: Post>(
     worker: WorkerStart,
     stop: &AtomicBool,
 ) {
-    let WorkerStart {
-        share,
-        keyring,
-        liar,
-    } = worker;
-    let (alloc, gate) = (rt.alloc(), Open);
+    let WorkerStart { keyring, liar } = worker;
     wait_for_others(rt, station, stop);
+    let Some(share) = station.take_share(rt) else {
+        return;
+    };
+    let (alloc, gate) = (rt.alloc(), Open);
     let mut steps = &station.locked;
-    let _share = match liar {
+    let share = match liar {
         None => {
             let out = Outside::new(rt, post, station);
             let worker = Worker::new(alloc, keyring, &gate, &station.inbox, &out, &station.room);
@@ -56,4 +55,5 @@ pub fn run_worker<R: Wait + Clock + AllocGlobal, P: Post>(
             worker.run(rt, &mut steps, share)
         }
     };
+    station.put_back(rt, share);
 }

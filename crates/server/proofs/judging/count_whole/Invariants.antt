@@ -4,4 +4,4 @@ use Rattle.server.proofs.judging.count_whole.Given as goal
 
 -- with those that are left they are as many
 abbrev pub invariant-loop-one : goal.invariant-loop-one
-invariant-loop-one l = (l.count + length (whole_of (drop l.one-index l.kept)) ≡ length (whole_of l.kept)) × (l.count ≤ l.one-index)
+invariant-loop-one l = (l.count + length (whole_of (drop l.one-index l.all)) ≡ length (whole_of l.all)) × (l.count ≤ l.one-index)

@@ -5,4 +5,4 @@ use Rattle.server.proofs.judging.whole_at.Given as goal
 
 -- it is looked for among those that are left
 abbrev pub invariant-loop-one : goal.invariant-loop-one
-invariant-loop-one l = slice_get (whole_of (drop l.one-index l.kept)) l.left ≡ slice_get (whole_of l.kept) l.place
+invariant-loop-one l = slice_get (whole_of (drop l.one-index l.all)) l.left ≡ slice_get (whole_of l.all) l.place

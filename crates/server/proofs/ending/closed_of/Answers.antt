@@ -1,6 +1,6 @@
 use Rattle.std.proofs.Common.{rules, arith, refl, ◌≡◌, ◌+◌, ◌-◌, ◌∙◌}
 use Rattle.server.proofs.Others.{others_more}
-use Rattle.server.proofs.ending.kept_of.Goals as goal
+use Rattle.server.proofs.ending.closed_of.Goals as goal
 
 pub loop-number-preserved-then-number-skipped : goal.loop-number-preserved-then-number-skipped
 loop-number-preserved-then-number-skipped c =
@@ -12,7 +12,7 @@ loop-number-preserved-then-number-skipped c =
       search rules,
       search rules,
       search rules,
-      others_more c.args.config c.args.skipped n _ _ _ c.into_kept-one.result c.push_reserved.ensures.items
+      others_more c.args.config c.args.skipped n _ _ _ c.in-Ok.closed.replica c.push_reserved.ensures.items
           c.loop-number.invariant.4 (is.0, is.1 ∙ at ∙ omega (arith, c.if-number-skipped.true, at))
           (omega (arith, c.if-number-skipped.true, at, next)),
       search rules,
