@@ -1,13 +1,15 @@
 -- The laws of the rule.
-use Rattle.std.proofs.Common.{ℕ, ◌+◌, ◌*◌, ◌-◌, ◌^◌, ◌≤◌, ◌==◌, Bool, true, false, not, cond, min}
+use Rattle.std.proofs.Common.{ℕ, ◌+◌, ◌*◌, ◌/◌, ◌-◌, ◌^◌, ◌≤◌, ◌==◌, Bool, true, false, not, cond, min}
 use Rattle.std.proofs.Common.{[], ◌∷◌, arith, inl, inr, le_trans, nat_le, ◌≡◌, refl, sym, subst, ◌∙◌}
 use Rattle.std.proofs.lemmas.Bool.{and_parts, and_from, or_cases, or_left, cond_both, cond-true, cond-false, leb-true, leb-false}
 use Rattle.std.proofs.lemmas.Bool.{le-leb, eq-eqb, not_from_true}
-use Rattle.std.proofs.Math.Nat.{min-le_left, min-le_right, min-eq_left, min-eq_right, le-min}
+use Rattle.std.proofs.Math.Nat.{div-le_self, min-le_left, min-le_right, min-eq_left, min-eq_right, le-min}
 use Rattle.ids.specs.Sizes.{Sizes}
 use Rattle.clock.specs.declared.watch.Pulse.{Pulse}
 use Rattle.clock.specs.declared.watch.Watch.{Watch}
-use Rattle.clock.specs.Watching.{is_calm, is_due, is_overdue, lags, limit_after, moved, slack_after, slow_after}
+use Rattle.tuning.specs.declared.clocks.TheConstants.{SPENT_PART}
+use Rattle.clock.specs.Watching.{borne_by, counted, is_calm, is_due, is_overdue, is_spent, lags, limit_after, limit_of, moved}
+use Rattle.clock.specs.Watching.{slack_after, slow_after, vain_after}
 use Rattle.clock.specs.Laws.{Looks, watched, lagged, lagged_on, IsEarned, IsGiven, IsOwed, IsPatient, IsSlack}
 
 -- three times the time is as much as the count, at most
@@ -101,6 +103,14 @@ slow-on config times (x ∷ earlier) =
     on-step (not (x.1.view == w.view)) (is_due w x.0 x.1) (lags w x.0 x.1) w.slow (x.0 - w.looked)
     (lagged_on config times earlier) (2 ^ 64 - 1) (slow-on config times earlier)
 
+-- a limit is a number of the machine
+limit-most : (w : Watch) (now : ℕ) (p : Pulse) → limit_after w now p ≤ 2 ^ 64 - 1
+limit-most w now p =
+    let limit = min (limit_of w.limit (counted w (vain_after w now p) p) * borne_by w (slack_after w now p)) (2 ^ 64 - 1) in
+    let most : limit ≤ 2 ^ 64 - 1 = min-le_right _ (2 ^ 64 - 1) in
+    cond_both (is_spent p.view p.height p.voted) (limit / SPENT_PART) limit (λ (n : ℕ). n ≤ 2 ^ 64 - 1)
+    (λ t. le_trans (div-le_self limit SPENT_PART) most) (λ f. most)
+
 pub is-given : IsGiven
 is-given config times earlier now p same l h =
     let w = watched config times earlier in
@@ -109,7 +119,7 @@ is-given config times earlier now p same l h =
     let seen : slow_after w now p ≡ min (w.slow + min (passed * 3) most) most =
     cond-false _ _ _ (not_from_true _ (eq-eqb _ _ same)) ∙ cond-true _ _ _ l in
     let k = most-added (3 * lagged_on config times earlier) (passed * 3) w.slow most (slow-on config times earlier) in
-    let least = le-min {b = most} h (min-le_right _ most) in
+    let least = le-min {b = most} h (limit-most w now p) in
     let sum : 3 * (lagged_on config times earlier + passed) ≡ 3 * lagged_on config times earlier + passed * 3 =
     omega arith in
     or_left _ _ (and_from _ _ l (le-leb _ _

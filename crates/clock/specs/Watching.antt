@@ -112,15 +112,15 @@ borne_by w slack = if w.served then slack else min slack BEGINNING_SLACK
 abbrev pub most_undecided : ℕ → ℕ
 most_undecided view = min (min (view + 1) (2 ^ 64 - 1) * MOST_UNDECIDED) (2 ^ 64 - 1)
 
--- it voted for a block as high above its last executed one as a leader of its view may climb, which is half of that
-abbrev pub is_spent : Pulse → Bool
-is_spent p = nat_le (most_undecided p.view / 2) (p.voted - p.height)
+-- one in this view voted for a block as high above its last executed one as a leader may climb, which is half of that
+abbrev pub is_spent : (view height voted : ℕ) → Bool
+is_spent view height voted = nat_le (most_undecided view / 2) (voted - height)
 
 -- that of its view, where so many passed in vain: where its leader may climb no further, a part
 abbrev pub limit_where : Watch → (vain slack : ℕ) → Pulse → ℕ
 limit_where w vain slack p =
     let limit = min (limit_of w.limit (counted w vain p) * borne_by w slack) (2 ^ 64 - 1) in
-    if is_spent p then limit / SPENT_PART else limit
+    if is_spent p.view p.height p.voted then limit / SPENT_PART else limit
 
 abbrev pub limit_after : Watch → ℕ → Pulse → ℕ
 limit_after w now p = limit_where w (vain_after w now p) (slack_after w now p) p

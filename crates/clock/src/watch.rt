@@ -115,12 +115,12 @@ fn brought(from: Height, voted: Height) -> u64
     voted.0.saturating_sub(from.0)
 }
 
-/// Whether it voted for a block as high above its last executed one as a leader of its view may climb: half of what the view may
-/// bring. Who leads may propose nothing more before it has a certificate.
-fn is_spent(pulse: Pulse) -> bool
-    ensures { result ≡ is_spent pulse }
+/// Whether a replica in this view voted for a block as high above its last executed one as a leader of the view may climb: half of
+/// what the view may bring. Who leads may propose nothing more before it has a certificate.
+fn is_spent(view: u64, height: Height, voted: Height) -> bool
+    ensures { result ≡ is_spent view height voted }
 {
-    brought(pulse.height, pulse.voted) >= most_undecided(pulse.view.0) / 2
+    brought(height, voted) >= most_undecided(view) / 2
 }
 
 /// How many milliseconds a command may take among so many replicas: `LEAST_COMMAND_MILLIS` among few, and then as the
@@ -288,13 +288,10 @@ impl Watch {
     fn limit_where(&self, vain: u64, slack: u64, pulse: Pulse) -> u64
         ensures { result ≡ limit_where self.now vain slack pulse }
     {
+        let spent = is_spent(pulse.view.0, pulse.height, pulse.voted);
         let counted = self.counted(vain, pulse);
         let limit = limit_of(self.limit, counted).saturating_mul(self.borne_by(slack));
-        if is_spent(pulse) {
-            limit / SPENT_PART
-        } else {
-            limit
-        }
+        if spent { limit / SPENT_PART } else { limit }
     }
 
     /// What it had voted for when its view began.
