@@ -41,14 +41,14 @@ fn slices<'b>(alloc: Global, frames: &'b [Bytes]) -> Result<Vec<&'b [u8]>, Alloc
 }
 
 impl<'a, G: Gate, O: Outgoing + Questioned + Recording> Worker<'a, G, O> {
-    /// The turn of one frame; where a tag isn't right, it is offered. What it sends goes out. For which block it votes, if for one.
+    /// The turn of one frame; where a tag isn't right, it is offered. What it sends goes out.
     pub(crate) fn bring<R: Wait + Clock, S: Steps>(
         &mut self,
         rt: &R,
         steps: &mut S,
         share: &mut Share,
         arrived: &Arrived<'_>,
-    ) -> Result<Option<Digest>, Fault>
+    ) -> Result<Worth, Fault>
         ensures { HasGrown share.old share.new }
     {
         let keyring = self.keyring.verifying();
@@ -67,7 +67,7 @@ impl<'a, G: Gate, O: Outgoing + Questioned + Recording> Worker<'a, G, O> {
         share: &mut Share,
         number: u64,
         bytes: &Bytes,
-    ) -> Result<Option<Digest>, Fault>
+    ) -> Result<Worth, Fault>
         ensures { HasGrown share.old share.new }
     {
         match Arrived::new(&self.keyring.config(), number, bytes) {
@@ -76,18 +76,24 @@ impl<'a, G: Gate, O: Outgoing + Questioned + Recording> Worker<'a, G, O> {
         }
     }
 
-    /// What a step sends goes out that a frame brought about, and the frame is recorded.
+    /// What a step sends goes out that a frame brought about, and the frame is recorded. A proposal of another view was in vain where
+    /// it found no vote; one of the own view never: its leader may have to climb above what was voted for.
     fn finish<R: Wait>(
         &mut self,
         rt: &R,
         arrived: &Arrived<'_>,
         answer: Result<Out, Fault>,
-    ) -> Result<Option<Digest>, Fault> {
+    ) -> Result<Worth, Fault> {
         let out = answer?;
         let voted = voted_for(&self.keyring.config(), &out);
+        let is_in_vain = voted.is_none() && self.is_elsewhere(arrived);
         self.send_all(rt, out);
         self.out.record(rt, arrived.frame(), arrived.bytes, voted);
-        Ok(voted)
+        Ok(if is_in_vain {
+            Worth::InVain
+        } else {
+            Worth::OfUse
+        })
     }
 
     /// Offers a frame, if its own tag is right. What the step sends goes out.
@@ -97,7 +103,7 @@ impl<'a, G: Gate, O: Outgoing + Questioned + Recording> Worker<'a, G, O> {
         steps: &mut S,
         share: &mut Share,
         arrived: &Arrived<'_>,
-    ) -> Option<Result<Option<Digest>, Fault>>
+    ) -> Option<Result<Worth, Fault>>
         ensures { HasGrown share.old share.new }
     {
         let keyring = self.keyring.verifying();
@@ -113,7 +119,7 @@ impl<'a, G: Gate, O: Outgoing + Questioned + Recording> Worker<'a, G, O> {
         steps: &mut S,
         share: &mut Share,
         arrived: &Arrived<'_>,
-    ) -> Result<Option<Digest>, Fault>
+    ) -> Result<Worth, Fault>
         ensures { HasGrown share.old share.new }
     {
         let tried_at = self.room.news();
@@ -139,7 +145,7 @@ impl<'a, G: Gate, O: Outgoing + Questioned + Recording> Worker<'a, G, O> {
         share: &mut Share,
         arrived: &Arrived<'_>,
         tried_at: u64,
-    ) -> Result<Option<Digest>, Fault>
+    ) -> Result<Worth, Fault>
         ensures { HasGrown share.old share.new }
     {
         let Some((sender, _lacks)) = missing_of(&arrived.frame.read) else {
@@ -175,13 +181,13 @@ impl<'a, G: Gate, O: Outgoing + Questioned + Recording> Worker<'a, G, O> {
         steps: &mut S,
         share: &mut Share,
         copies: Vec<Bytes>,
-    ) -> Result<Option<Digest>, Fault>
+    ) -> Result<Worth, Fault>
         ensures { HasGrown share.old share.new }
     {
         let frames = slices(self.alloc, &copies)?;
         let out = gather(rt, steps, share, self.keyring.verifying(), &frames)?;
         self.send_all(rt, out);
-        Ok(None)
+        Ok(Worth::OfUse)
     }
 
     /// Brings the frames that lack this block, which the replica has by now, and those that lack a
@@ -323,9 +329,8 @@ impl<'a, G: Gate, O: Outgoing + Questioned + Recording> Worker<'a, G, O> {
         }
     }
 
-    /// Takes a frame that was read. Where it brings a block, what waited for that block comes next. It is of use where
-    /// it was lost unchecked, or taken, or waits for a block. A proposal of another view is of use where it finds a vote; one of the
-    /// own view always, since its leader may have to climb above what was voted for.
+    /// Takes a frame that was read. Where it brings a block, what waited for that block comes next. What is lost
+    /// unchecked cost nothing, and what waits for a block may be of use.
     fn take_read<R: Wait + Clock, S: Steps>(
         &mut self,
         rt: &R,
@@ -345,13 +350,9 @@ impl<'a, G: Gate, O: Outgoing + Questioned + Recording> Worker<'a, G, O> {
             return Worth::OfUse;
         }
         match self.bring(rt, steps, share, arrived) {
-            Ok(voted) => {
+            Ok(worth) => {
                 self.taken(rt, steps, share, arrived);
-                if voted.is_none() && self.is_elsewhere(arrived) {
-                    Worth::InVain
-                } else {
-                    Worth::OfUse
-                }
+                worth
             }
             Err(Fault::UnknownParent) => {
                 self.take_later(rt, steps, share, arrived);
