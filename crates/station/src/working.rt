@@ -29,10 +29,10 @@ fn wait_for_others<R: Wait + Clock>(rt: &R, station: &Station<'_>, stop: &Atomic
 }
 
 /// Works at a station until it is told to stop, with a share of its replica. What the replica says goes out by this post.
-pub fn run_worker<R: Wait + Clock + AllocGlobal, P: Post>(
-    rt: &R,
-    station: &Station<'_>,
-    post: &P,
+pub fn run_worker<'s, R: Wait + Clock + AllocGlobal, P: Post>(
+    rt: &'s R,
+    station: &'s Station<'_>,
+    post: &'s P,
     worker: WorkerStart,
     stop: &AtomicBool,
 ) {
