@@ -476,9 +476,15 @@ impl Inbox {
         }
     }
 
-    /// Allows each sender its part again, or sleeps until it is time for that.
+    /// Allows each sender its part again, or sleeps until it is time for that. Once the workers are to end, it is at any time: what a
+    /// flood left would hold them up.
     fn sleep_a_while<R: Wait + Clock>(&self, rt: &R, mut inside: MutexGuard<'_, Inside>) {
-        let Some(left) = until_refill(rt, inside.refilled) else {
+        let left = if inside.before_stop.is_some() {
+            None
+        } else {
+            until_refill(rt, inside.refilled)
+        };
+        let Some(left) = left else {
             let now = Instant::now(rt).ok();
             inside.refill(now);
             return;
