@@ -34,8 +34,8 @@ pub const VIEW_LIMIT: u64 = 1000;
 /// cost more. More: later leaders are replaced while they climb.
 pub const CLIMB_A_LIMIT: u64 = 256;
 
-/// What part of its lag counts against a view whose leader may climb no further. Less: faulty leaders that climb cost more.
-/// More: a correct one that had to climb so far has no time for its last certificate.
+/// By what a view's limit is divided once its leader may climb no further. Less: faulty leaders that climb cost more. More: a correct
+/// one that had to climb so far has no time for its last certificate.
 pub const SPENT_PART: u64 = 8;
 
 /// Milliseconds of service that isn't slow after which half of the views in vain are forgotten. Shorter: a slow machine begins
