@@ -29,16 +29,15 @@ struct Timed<'s, 'a> {
 
 impl<'s, 'a> Timed<'s, 'a> {
     /// From where the replica is to begin anew. It climbs above all that it voted for, and further, since others may have voted
-    /// for more, as far as blocks of its view may.
+    /// for more; but half of a view's climb stays free for what follows, since a view ends soon where its leader can't propose.
     fn base<R: Wait>(&self, rt: &R, from: LeadFrom) -> Base {
         let guarded = self.station.lock(rt);
         let replica = guarded.replica();
         let above = replica.voted().0.saturating_sub(replica.lock_height().0);
-        let most = replica
-            .view()
-            .0
-            .saturating_add(1)
-            .saturating_mul(MOST_CLIMB);
+        let views = replica.view().0.saturating_add(1);
+        let most = views
+            .saturating_mul(MOST_CLIMB)
+            .saturating_sub(MOST_CLIMB / 2);
         let (lock, further) = match from {
             LeadFrom::Certified => (None, LEAD_CLIMB / LEAD_PART),
             LeadFrom::Lock => (Some(replica.lock()), LEAD_CLIMB),

@@ -23,7 +23,7 @@ pub const QUESTION_PACE_MILLIS: u64 = 10;
 /// lacks many blocks is behind longer.
 pub const QUESTION_PACE: u64 = 8;
 
-/// Blocks that are asked for at once on one replica's account, at most: as many heights as a leader may climb in view 3.
+/// Blocks that are asked for at once on one replica's account, at most: as many heights as a leader may climb in view 15.
 /// More: what faulty replicas name takes more memory, and each look more time.
 pub const MOST_ASKED_FOR: usize = 256;
 

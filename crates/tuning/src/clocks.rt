@@ -26,13 +26,13 @@ pub const MOST_COUNTED: u64 = 8;
 pub const LAG_WEIGHT: u64 = 3;
 
 /// How much a view's lag may count, and as much more for each view in vain that counts, and for the square of half of them: a view
-/// that lags all along ends after a third of a second, the next one after two thirds, the tenth after nine seconds. As many as
-/// leaders may be faulty don't count. Less: correct leaders are replaced while they catch up.
-pub const VIEW_LIMIT: u64 = 1000;
+/// that lags all along ends after 0.27 seconds, the next one after 0.53, the tenth after seven. As many as leaders may be faulty
+/// don't count. Less: correct leaders are replaced while they catch up. More: faulty leaders in turn cost more.
+pub const VIEW_LIMIT: u64 = 800;
 
 /// Heights that were voted for in vain and count as one view in vain: a leader has to come above them. Fewer: faulty leaders that climb
 /// cost more. More: later leaders are replaced while they climb.
-pub const CLIMB_A_LIMIT: u64 = 256;
+pub const CLIMB_A_LIMIT: u64 = 64;
 
 /// By what a view's limit is divided once its leader may climb no further. Less: faulty leaders that climb cost more. More: a correct
 /// one that had to climb so far has no time for its last certificate.

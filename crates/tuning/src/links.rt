@@ -47,9 +47,9 @@ pub const LIAR_REST_MICROS: u64 = 100;
 pub const MOST_OF_SENDER: usize = 4;
 
 /// Heights by which a proposal's block may stand above the block that it justifies, times one more than the number of its
-/// view. More: a faulty leader has correct ones propose longer before anything is decided. Below four: nothing is decided
-/// in view 0.
-pub const MOST_CLIMB: u64 = 64;
+/// view. More: behind faulty leaders that climb, a correct one proposes longer before anything is decided. Fewer: one whose
+/// votes are late has fewer trials in a view. Below four: nothing is decided in view 0.
+pub const MOST_CLIMB: u64 = 16;
 
 /// Heights by which a leader that begins anew from its lock climbs above all that it voted for, before it proposes a
 /// request. More: more empty blocks. Fewer: below what others voted for nothing finds votes.
