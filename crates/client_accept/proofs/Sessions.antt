@@ -22,6 +22,11 @@ use Rattle.client_accept.specs.Sessions.{Held, memory_of, IsSubmitted, IsSubmitt
 use Rattle.client_accept.specs.Sessions.{next_seq}
 use Rattle.client_accept.specs.Sessions.{admission, receipt_at}
 
+-- what holds in any case holds where there is a value
+pub on_ok : {T E P : Type 0} (r : Result T E) → P → OnOk r P
+on_ok (Ok x) p = p
+on_ok (Err n) p = tt
+
 -- ---- one test after the other
 
 module _ {T Y : Type 0} (a : Bool) (f : Fault) (r : Result T Fault) (h : Fault → Y) (y : Y) where

@@ -4,6 +4,7 @@ ghost use Rattle.std.specs.Prelude.{◌≡◌, ◌<◌, ◌==◌, ◌&&◌, ◌�
 ghost use Rattle.std.specs.Prelude.{option_map};
 ghost use Rattle.std.specs.Prelude.{is_none, IfOk, OnOk, OnErr};
 ghost use Rattle.ids.specs.Sizes.{client_party};
+ghost use Rattle.definitions.specs.Canonical.{is_canonical};
 ghost use Rattle.definitions.specs.Requests.{IsRequest, canonical};
 ghost use Rattle.definitions.specs.Frames.{spelling};
 ghost use Rattle.definitions.specs.FrameLimits.{IsFrame};
@@ -210,6 +211,7 @@ impl Session {
 
     /// The bytes of the frame of the request of this number that has this text.
     fn frame_of_text(&self, seq: Seq, text: &CanonicalText<'_>) -> Result<Vec<u8>, Fault>
+        ensures canonical { is_canonical text.now ≡ true }
         ensures made { IfOk result (λ frame. frame.items
             ≡ spelling (request_frame (client_of self.now.keys) seq text.now)) }
         ensures memory { OnErr result (result ≡ Err Fault.Memory) }
@@ -220,6 +222,7 @@ impl Session {
 
     /// Makes the request of this number that has this text the outstanding one.
     fn send_text(&mut self, seq: Seq, text: &CanonicalText<'_>) -> Result<(), Fault>
+        ensures canonical { is_canonical text.now ≡ true }
         ensures begun { OnOk result (self.new ≡ record self.old {
           session = record { used = seq; waiting = true; tally = [] };
           frame = spelling (request_frame (client_of self.old.keys) seq text.now);
@@ -238,6 +241,7 @@ impl Session {
     /// `Busy` comes where a request is outstanding, then `Spent` where the number 2^64 - 1 was
     /// given, then `Memory`. At a refusal the session is as before.
     pub fn submit_text(&mut self, text: &CanonicalText<'_>) -> Result<(), Fault>
+        ensures canonical { OnOk result (is_canonical text.now ≡ true) }
         ensures keys { self.new.keys ≡ self.old.keys }
         ensures state { self.new.session
             ≡ (submission (client_of self.old.keys) (memory_of result) text.now self.old.session).0 }

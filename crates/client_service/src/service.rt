@@ -139,35 +139,22 @@ impl<L: Link> ClientService<L> {
         ensures { IsAsked L.carries (self.old.session, self.old.link) text.now (result_ok result)
             (self.new.session, self.new.link) }
     {
-        // For the proof: the text is canonical.
-        let _canonical = text.as_slice();
         match self.session.submit_text(text) {
             Ok(()) => self.ask(),
             Err(fault) => Err(fault),
         }
     }
 
-    /// Submits the request of this payload, and asks for its receipt.
-    fn submit_and_ask(&mut self, payload: &[u8]) -> Result<Receipt, Fault>
-        ensures { IsAsked L.carries (self.old.session, self.old.link) payload.now (result_ok result)
-            (self.new.session, self.new.link) }
-    {
-        match CanonicalText::read(payload) {
-            Some(text) => self.submit_text(&text),
-            None => Err(Fault::NotARequest),
-        }
-    }
-
-    /// Asks for the receipt of this payload's request. `Stopped` where the link is closed: nothing
-    /// is submitted then.
-    fn answer(&mut self, payload: &[u8]) -> Result<Receipt, Fault>
+    /// Asks for the receipt of the request that has this text. `Stopped` where the link is closed:
+    /// nothing is submitted then.
+    fn answer(&mut self, payload: &CanonicalText<'_>) -> Result<Receipt, Fault>
         ensures { LooksAndAsks L.carries (self.old.session, self.old.link) payload.now (result_ok result)
             (self.new.session, self.new.link) }
     {
         if !self.link.is_open() {
             return Err(Fault::Stopped);
         }
-        self.submit_and_ask(payload)
+        self.submit_text(payload)
     }
 }
 
@@ -177,11 +164,11 @@ impl<L: Link> Service for ClientService<L> {
     ghost answers = { λ old payload answer new.
         IsCall L.carries (old.session, old.link) payload answer (new.session, new.link) };
 
-    /// Puts the text of the request's receipt into `text`. It refuses where the payload is no
-    /// request, where one is outstanding, where memory is refused, and, with `Busy`, where there is
-    /// no receipt after all tries. Where the link is closed it refuses at once, with `Stopped`, and
+    /// Puts the text of the request's receipt into `text`. It refuses where a request is
+    /// outstanding, where memory is refused, and, with `Busy`, where there is no receipt after all
+    /// tries. Where the link is closed it refuses at once, with `Stopped`, and
     /// nothing is outstanding that wasn't before.
-    fn call(&mut self, payload: &[u8], text: &mut Vec<u8>) -> Result<(), Fault> {
+    fn call(&mut self, payload: &CanonicalText<'_>, text: &mut Vec<u8>) -> Result<(), Fault> {
         let receipt = self.answer(payload)?;
         text.extend_from_slice(&receipt.text)?;
         Ok(())

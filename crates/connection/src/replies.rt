@@ -68,7 +68,7 @@ fn reply_to_request<'a, S: Service>(
 {
     room.payload.fill(request);
     room.answer.clear();
-    match service.call(room.payload.as_slice(), &mut room.answer) {
+    match service.call(&room.payload.text(), &mut room.answer) {
         Ok(()) => Reply {
             text: if noreply { b"" } else { room.answer.as_slice() },
             end: None,

@@ -1,10 +1,11 @@
-ghost use Rattle.std.specs.Prelude.{◌≡◌, false, OnErr, Err};
+ghost use Rattle.std.specs.Prelude.{◌≡◌, false, true, OnErr, Err};
 ghost use Rattle.ids.specs.declared.fault.Fault.TheVariants.{Memory};
+ghost use Rattle.definitions.specs.Canonical.{is_canonical};
 ghost use Rattle.definitions.specs.Requests.{canonical, IsRequest};
 ghost use Rattle.mc_lines.specs.Meaning.{asked_of};
 
 use ids::Fault;
-use mc_lines::{MOST_CANONICAL, Request, write_request};
+use mc_lines::{CanonicalText, MOST_CANONICAL, Request, write_request};
 use std::alloc::Global;
 use std::marker::Model;
 
@@ -44,9 +45,11 @@ impl RequestText {
         write_request(request, &mut self.bytes).unwrap();
     }
 
-    pub(crate) fn as_slice(&self) -> &[u8]
-        ensures { result.now ≡ self.now }
+    /// The text that it was made.
+    pub(crate) fn text(&self) -> CanonicalText<'_>
+        requires { is_canonical self.now ≡ true }
+        ensures { result ≡ self.now }
     {
-        self.bytes.as_slice()
+        CanonicalText::of_written(self.bytes.as_slice())
     }
 }

@@ -1,10 +1,9 @@
 //! Texts that are known to be canonical.
 
-ghost use Rattle.std.specs.Prelude.{◌≡◌, ◌≤◌, length, is_some, true, IfSome};
+ghost use Rattle.std.specs.Prelude.{◌≡◌, ◌≤◌, length, true};
 ghost use Rattle.definitions.specs.Canonical.{is_canonical};
 ghost use Rattle.mc_lines.specs.declared.canonical.TheConstants.{MOST_CANONICAL};
 
-use crate::read::read_canonical;
 use std::marker::Model;
 
 /// The most bytes of a canonical text: a `cas` with the longest key, numbers and data.
@@ -29,13 +28,13 @@ impl<'a> Model for CanonicalText<'a> {
 }
 
 impl<'a> CanonicalText<'a> {
-    /// These bytes, exactly where they are the canonical text of a request, with nothing before or after it.
-    pub fn read(bytes: &'a [u8]) -> Option<CanonicalText<'a>>
-        ensures text { IfSome result (λ text. text ≡ bytes.now) }
-        ensures exactly { is_some result ≡ is_canonical bytes.now }
+    /// These bytes, for who knows that they are one: `write_request` wrote them, of a request that may be sent, or
+    /// `read_canonical` reads one.
+    pub fn of_written(bytes: &'a [u8]) -> CanonicalText<'a>
+        requires { is_canonical bytes.now ≡ true }
+        ensures { result ≡ bytes.now }
     {
-        let _request = read_canonical(bytes)?;
-        Some(CanonicalText { bytes })
+        CanonicalText { bytes }
     }
 
     /// The bytes, of which there are at most `MOST_CANONICAL`.

@@ -11,6 +11,7 @@ use anyhow::{Result, bail};
 use connection::Service;
 use ids::Fault;
 use log::Log;
+use mc_lines::CanonicalText;
 use std::alloc::Global;
 use std::io::{Read, Write};
 use std::net::{Net, SocketAddr, TcpListener, TcpStream};
@@ -31,8 +32,8 @@ impl Service for Lengths {
 
     ghost answers = { λ old payload answer new. new ≡ old };
 
-    fn call(&mut self, payload: &[u8], text: &mut Vec<u8>) -> Result<(), Fault> {
-        let length = payload.len();
+    fn call(&mut self, payload: &CanonicalText<'_>, text: &mut Vec<u8>) -> Result<(), Fault> {
+        let length = payload.as_slice().len();
         let line = format!(in self.0; "{length}\r\n")?;
         text.extend_from_slice(line.as_bytes())?;
         Ok(())

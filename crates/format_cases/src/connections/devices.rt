@@ -2,6 +2,7 @@ ghost use Rattle.std.specs.Prelude.{⊤};
 
 use connection::Service;
 use ids::Fault;
+use mc_lines::CanonicalText;
 use std::alloc::Global;
 use std::io;
 use std::io::{ErrorKind, Read, Write};
@@ -131,8 +132,8 @@ impl Stored {
 impl Service for Stored {
     ghost answers = { λ _ _ _ _. ⊤ };
 
-    fn call(&mut self, payload: &[u8], text: &mut Vec<u8>) -> Result<(), Fault> {
-        self.payloads.extend_from_slice(payload)?;
+    fn call(&mut self, payload: &CanonicalText<'_>, text: &mut Vec<u8>) -> Result<(), Fault> {
+        self.payloads.extend_from_slice(payload.as_slice())?;
         self.calls = self.calls.wrapping_add(1);
         text.extend_from_slice(b"STORED\r\n")?;
         if self.calls == self.refused {

@@ -5,6 +5,7 @@ use anyhow::Result;
 use connection::Service;
 use ids::Fault;
 use log::Log;
+use mc_lines::CanonicalText;
 use std::io::{Read, Write};
 use std::net::{Net, SocketAddr, TcpListener, TcpStream};
 use std::sync::Wait;
@@ -47,8 +48,8 @@ impl Service for Patient<'_> {
 
     ghost answers = { λ old payload answer new. new ≡ old };
 
-    fn call(&mut self, payload: &[u8], text: &mut Vec<u8>) -> Result<(), Fault> {
-        if payload.starts_with(b"delete") {
+    fn call(&mut self, payload: &CanonicalText<'_>, text: &mut Vec<u8>) -> Result<(), Fault> {
+        if payload.as_slice().starts_with(b"delete") {
             self.signals.is_asked.store(true, SeqCst);
             wait_for(&self.signals.is_gone);
         }

@@ -5,6 +5,7 @@ use anyhow::Result;
 use connection::Service;
 use ids::Fault;
 use log::Log;
+use mc_lines::CanonicalText;
 use std::alloc::Global;
 use std::net::{Net, SocketAddr, TcpListener, TcpStream};
 use std::sync::Wait;
@@ -27,7 +28,7 @@ impl Service for Numbered {
 
     ghost answers = { λ old payload answer new. new ≡ old };
 
-    fn call(&mut self, _payload: &[u8], text: &mut Vec<u8>) -> Result<(), Fault> {
+    fn call(&mut self, _payload: &CanonicalText<'_>, text: &mut Vec<u8>) -> Result<(), Fault> {
         let number = self.number;
         let line = format!(in self.alloc; "{number}\r\n")?;
         text.extend_from_slice(line.as_bytes())?;

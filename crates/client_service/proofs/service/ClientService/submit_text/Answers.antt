@@ -1,6 +1,5 @@
-use Rattle.std.proofs.Common.{◌≡◌, true, ap, inl, sym, ◌∙◌}
+use Rattle.std.proofs.Common.{ap, inl}
 use Rattle.std.specs.Result.{result_ok}
-use Rattle.definitions.specs.Canonical.{is_canonical}
 use Rattle.client_accept.specs.Sessions.{Held}
 use Rattle.client_service.proofs.Submitting.{submitted_for, begun_waits, asked, not_asked}
 use Rattle.client_service.proofs.service.ClientService.submit_text.Goals as goal
@@ -12,12 +11,10 @@ ask-requires g c =
 
 pub returns-in-Ok : goal.returns-in-Ok
 returns-in-Ok g c =
-    let canonical : is_canonical c.args.text.now ≡ true =
-    ap is_canonical (sym c.as_slice-canonical.ensures.bytes) ∙ c.as_slice-canonical.ensures.canonical in
     asked g.L.Link.carries (c.args.self.now.session, c.args.self.now.link)
     (c.ask.new.self.session, c.ask.new.self.link) c.submit_text.new.self c.args.text.now
     (result_ok c.ask.result)
-    (submitted_for c.args.self.now.session c.submit_text.new.self _ c.args.text.now canonical
+    (submitted_for c.args.self.now.session c.submit_text.new.self _ c.args.text.now c.in-Ok.ensures.canonical
     c.in-Ok.ensures.keys c.in-Ok.ensures.state c.in-Ok.ensures.answer)
     c.ask.ensures
 
