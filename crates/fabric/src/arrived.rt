@@ -3,7 +3,7 @@
 use crate::waiting::Carried;
 use bytes::Bytes;
 use frames_view::{Frame, ReadFrame};
-use ids::{ClientId, Config, Digest, ReplicaId, Seq, View};
+use ids::{ClientId, Config, Digest, Height, ReplicaId, Seq, View};
 use turns::LinkFrame;
 
 /// A frame that came to a replica, or that it kept: read once for all that a worker asks of it.
@@ -33,6 +33,15 @@ impl<'b> Arrived<'b> {
     /// What it carries to its receiver's tree.
     pub(crate) fn carried(&self) -> Carried {
         Carried::of(self.frame())
+    }
+
+    /// The height of the block that it brings; 0 where it brings none.
+    pub(crate) fn height(&self) -> Height {
+        match self.frame() {
+            Frame::Proposal(proposal) => proposal.core().height(),
+            Frame::Block(block) => block.core().height(),
+            _ => Height(0),
+        }
     }
 
     /// The view that it proposes in, if it is a proposal.

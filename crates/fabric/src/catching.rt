@@ -17,7 +17,7 @@ use turns::{Gate, Share, Steps};
 
 impl<'a, G: Gate, O: Outgoing + Questioned + Recording> Worker<'a, G, O> {
     /// Whether a frame is of no use to a replica that is far behind, so that it may get lost, as on any network: a block so
-    /// high that what it stands on won't come soon; a request, which others answer before; or an announcement. It comes to the
+    /// high that what it stands on won't come soon; a vote or a request, which others need; or an announcement. It comes to the
     /// others' view once it has their blocks.
     pub(crate) fn is_out_of_reach(&self, arrived: &Arrived<'_>) -> bool {
         let Some(reach) = self.out.reach() else {
@@ -26,7 +26,7 @@ impl<'a, G: Gate, O: Outgoing + Questioned + Recording> Worker<'a, G, O> {
         match arrived.frame() {
             Frame::Proposal(proposal) => proposal.core().height().0 > reach.0,
             Frame::Block(block) => block.core().height().0 > reach.0,
-            Frame::NewView(_) | Frame::Request(_) => true,
+            Frame::Vote(_) | Frame::NewView(_) | Frame::Request(_) => true,
             _ => false,
         }
     }
@@ -59,8 +59,8 @@ impl<'a, G: Gate, O: Outgoing + Questioned + Recording> Worker<'a, G, O> {
         self.out.answered(rt, &question);
     }
 
-    /// Takes frames that a replica recorded, up to the first that lacks a block. Whether none did. The block that it lacks is
-    /// asked for, where this replica couldn't take some of them by its frame: others may have it.
+    /// Takes frames that a replica recorded, up to the first that lacks a block. Whether none did. Where this replica couldn't take
+    /// some of them by their frames, others may have their blocks: then it asks for all that it lacks.
     fn take_recorded<R: Wait + Clock, S: Steps>(
         &mut self,
         rt: &R,
@@ -79,8 +79,9 @@ impl<'a, G: Gate, O: Outgoing + Questioned + Recording> Worker<'a, G, O> {
             };
             match self.bring_recorded(rt, steps, share, &arrived) {
                 Err(Fault::UnknownParent) => {
+                    self.need_parent(rt, giver, &arrived);
                     if is_one_out {
-                        self.need_parent(rt, giver, &arrived);
+                        self.need_blocks(rt, giver, &frames, arrived.height());
                     }
                     return false;
                 }
@@ -106,10 +107,37 @@ impl<'a, G: Gate, O: Outgoing + Questioned + Recording> Worker<'a, G, O> {
         Ok(())
     }
 
+    /// All are asked for the blocks of frames from a height on, on the account of who gave them, as far as that has room.
+    fn need_blocks<R: Wait + Clock>(
+        &self,
+        rt: &R,
+        giver: ReplicaId,
+        frames: &[Bytes],
+        from: Height,
+    ) {
+        let config = self.keyring.config();
+        for bytes in frames {
+            let Some(arrived) = Arrived::new(&config, OWN, bytes) else {
+                continue;
+            };
+            if arrived.height().0 >= from.0 && !self.need_block(rt, giver, &arrived) {
+                break;
+            }
+        }
+    }
+
+    /// All are asked for the block that a frame brings, if it brings one. Whether its giver's account has room.
+    fn need_block<R: Wait + Clock>(&self, rt: &R, giver: ReplicaId, arrived: &Arrived<'_>) -> bool {
+        match arrived.carried().block() {
+            Some(block) => self.out.need_now(rt, block, giver),
+            None => true,
+        }
+    }
+
     /// All are asked for the block that a frame lacks, on the account of who gave the frame.
     fn need_parent<R: Wait + Clock>(&self, rt: &R, giver: ReplicaId, arrived: &Arrived<'_>) {
         if let Some((_sender, lacks)) = missing_of(&arrived.frame.read) {
-            self.out.need(rt, lacks, giver);
+            let _full = self.out.need_now(rt, lacks, giver);
         }
     }
 

@@ -10,8 +10,14 @@ use std::time::Clock;
 /// Where it is kept which blocks a replica asked for since a frame had no grounds, and the copies that came. Who keeps none
 /// asks nobody.
 pub trait Questioned {
-    /// A block lacks, by a frame of this payer, on whose account all are to be asked.
+    /// A block lacks, by a frame of this payer, on whose account all are to be asked: behind a pause, in which votes may come that
+    /// give it grounds.
     fn need<R: Wait + Clock>(&self, _rt: &R, _block: Digest, _payer: ReplicaId) {}
+
+    /// The same at once. Whether the account has room for it.
+    fn need_now<R: Wait + Clock>(&self, _rt: &R, _block: Digest, _payer: ReplicaId) -> bool {
+        false
+    }
 
     /// The parent of a block lacks, by this sender's frame, who is to be asked first: on the account that the block is on
     /// where that was asked for, else on the sender's. The block isn't asked for meanwhile.

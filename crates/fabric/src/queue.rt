@@ -3,7 +3,7 @@
 ghost use Rattle.std.specs.Prelude.{◌≡◌, ◌<◌, ◌≤◌, ◌-◌, IfSome};
 ghost use Rattle.tuning.specs.declared.waiting.TheConstants.{MOST_WAITING_FRAMES};
 
-use crate::waiting::Waiting;
+use crate::waiting::{Carried, Waiting};
 use ids::{Digest, ReplicaId};
 use std::alloc::Global;
 use std::collections::{BTreeMap, VecDeque};
@@ -82,13 +82,18 @@ impl Queue {
         self.frames.get(number)
     }
 
-    /// Whether a frame waits that does all that this one would.
+    /// Whether a frame waits that does all that this one would. Who has no good certificate of a block takes it by copies of several
+    /// senders: so one sender's serves for no other's.
     fn has_one_like(&self, other: &Waiting) -> bool {
         let Some(block) = other.brings.block() else {
             return false;
         };
         match self.bringer(&block) {
-            Some(frame) => frame.brings.serves_for(other.brings),
+            Some(frame) => match (frame.brings, other.brings) {
+                (Carried::Block(_), Carried::Block(_)) => frame.sender == other.sender,
+                (_, Carried::Block(_)) => false,
+                (brings, other) => brings.serves_for(other),
+            },
             None => false,
         }
     }

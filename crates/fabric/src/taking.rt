@@ -221,7 +221,8 @@ impl<'a, G: Gate, O: Outgoing + Questioned + Recording> Worker<'a, G, O> {
         }
     }
 
-    /// In trouble the parent of a block is asked for, first of who sent the block, then of all.
+    /// In trouble the parent of a block is asked for, first of who sent the block, then of all. Who is far behind asks for what
+    /// others recorded.
     fn ask_below<R: Wait + Clock>(
         &self,
         rt: &R,
@@ -229,8 +230,17 @@ impl<'a, G: Gate, O: Outgoing + Questioned + Recording> Worker<'a, G, O> {
         parent: Digest,
         sender: ReplicaId,
     ) {
-        if self.asks() {
+        if self.out.in_trouble() && self.out.reach().is_none() {
             self.out.need_below(rt, block, parent, sender);
+        }
+    }
+
+    /// In trouble all are asked for the block of a proposal that lacks its parent, too: it may have no grounds when that comes, and
+    /// one question behind another's answer brings less than leaders propose.
+    fn ask_ahead<R: Wait + Clock>(&self, rt: &R, frame: &Waiting) {
+        let asks = self.out.in_trouble() && self.out.reach().is_none();
+        if let (true, Carried::Proposal(block)) = (asks, frame.brings) {
+            self.out.need(rt, block, frame.sender);
         }
     }
 
@@ -251,7 +261,10 @@ impl<'a, G: Gate, O: Outgoing + Questioned + Recording> Worker<'a, G, O> {
         };
         let brings = frame.brings.block();
         match &brings {
-            Some(block) => self.ask_below(rt, block, frame.lacks, frame.sender),
+            Some(block) => {
+                self.ask_below(rt, block, frame.lacks, frame.sender);
+                self.ask_ahead(rt, &frame);
+            }
             // Of an announcement the view counts at once.
             None => {
                 let _seen = self.offer_once(rt, steps, share, arrived);
@@ -428,7 +441,8 @@ impl<'a, G: Gate, O: Outgoing + Questioned + Recording> Worker<'a, G, O> {
         false
     }
 
-    /// A proposal that lacked grounds is offered once more, where something came since that may give it some.
+    /// A proposal that lacked grounds is offered once more, where something came since that may give it some: not to a replica that
+    /// is far behind, which takes others' copies.
     pub(crate) fn try_again<R: Wait + Clock, S: Steps>(
         &mut self,
         rt: &R,
@@ -437,6 +451,9 @@ impl<'a, G: Gate, O: Outgoing + Questioned + Recording> Worker<'a, G, O> {
     )
         ensures { HasGrown share.old share.new }
     {
+        if self.out.reach().is_some() {
+            return;
+        }
         let tried_at = self.room.news();
         let Some(Unfounded { number, bytes, .. }) = self.room.next_unfounded(rt) else {
             return;

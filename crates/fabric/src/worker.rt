@@ -63,8 +63,13 @@ pub trait Outgoing {
         false
     }
 
-    /// Is told that votes of these weren't right for another replica in a certificate of this one.
+    /// Is told that votes of these weren't right for another replica in a leader's certificate.
     fn hear_doubt<R: Wait>(&self, _rt: &R, _from: ReplicaId, _voters: ReplicaSet) {}
+
+    /// The replicas that told so of late: they have to count votes themselves.
+    fn left_out(&self) -> ReplicaSet {
+        ReplicaSet::none()
+    }
 
     /// The view that the replica is in, as it was seen last.
     fn view(&self) -> View {
@@ -154,6 +159,7 @@ impl<'a, G: Gate, O: Outgoing + Questioned + Recording> Worker<'a, G, O> {
                 continue;
             }
             let sending = self.aimed(sending);
+            self.share_vote(rt, &sending);
             if sending.to == To::Replica(own) {
                 self.keep(Bytes::from_vec(sending.frame).ok());
                 continue;
@@ -163,6 +169,32 @@ impl<'a, G: Gate, O: Outgoing + Questioned + Recording> Worker<'a, G, O> {
                 self.keep(copy.ok());
             }
             self.out.send(rt, own, sending);
+        }
+    }
+
+    /// A vote for a leader goes to those, too, that have to count votes themselves.
+    fn share_vote<R: Wait>(&self, rt: &R, sending: &Sending) {
+        let (Kind::Vote, To::Replica(leader)) = (sending.kind, sending.to) else {
+            return;
+        };
+        let (own, left_out) = (self.keyring.replica(), self.out.left_out());
+        for number in 0..self.keyring.config().n() {
+            let to = ReplicaId(number);
+            if left_out.has(to) && to != leader && to != own {
+                self.send_vote(rt, to, sending.frame.as_slice());
+            }
+        }
+    }
+
+    /// Sends a vote to one more replica.
+    fn send_vote<R: Wait>(&self, rt: &R, to: ReplicaId, vote: &[u8]) {
+        if let Ok(frame) = Vec::from_slice(self.alloc, vote) {
+            let sending = Sending {
+                to: To::Replica(to),
+                kind: Kind::Vote,
+                frame,
+            };
+            self.out.send(rt, self.keyring.replica(), sending);
         }
     }
 

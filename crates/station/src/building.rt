@@ -15,6 +15,7 @@ use crate::beside::Beside;
 use crate::comeback::Comeback;
 use crate::doubts::Doubts;
 use crate::guarded::Guarded;
+use crate::left_out::LeftOut;
 use crate::lying::LiarStart;
 use crate::passed_over::PassedOver;
 use crate::recorder::Recorder;
@@ -184,6 +185,7 @@ pub fn build_station<'a>(
         doubts: Doubts::none(),
         trouble: TroubleSign::none(),
         passed_over: PassedOver::none(config),
+        left_out: LeftOut::none(alloc, config)?,
         recorder: Recorder::new(alloc, config, terms.record)?,
         comeback: Comeback::none(config, number),
         late: terms.late_of(config, number),

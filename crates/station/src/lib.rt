@@ -8,6 +8,7 @@ mod comeback;
 mod doubts;
 mod given;
 mod guarded;
+mod left_out;
 mod lying;
 mod outside;
 mod passed_over;

@@ -34,6 +34,19 @@ pub(crate) struct Outside<'s, 'a, P> {
     start: Option<Instant>,
 }
 
+impl<P: Post> Outside<'_, '_, P> {
+    /// Tells all others whose votes weren't right for the replica: who leads does without them, and the others' votes go to it,
+    /// too.
+    fn tell_doubt<R: Wait>(&self, rt: &R, voters: ReplicaSet) {
+        let own = self.station.number();
+        for number in 0..self.post.config().n() {
+            if number != own.0 {
+                self.post.doubt(rt, own, ReplicaId(number), voters);
+            }
+        }
+    }
+}
+
 impl<'s, 'a, P> Outside<'s, 'a, P> {
     /// What lies around a worker that begins now.
     pub(crate) fn new<R: Clock>(
@@ -137,13 +150,17 @@ impl<P: Post> Outgoing for Outside<'_, '_, P> {
         self.station.trouble().doubt();
         self.station.doubts().look(rt, keyring, bytes);
         if let Some(doubt) = self.station.passed_over().look(rt, keyring, bytes) {
-            let own = self.station.number();
-            self.post.doubt(rt, own, doubt.sender, doubt.wrong);
+            self.tell_doubt(rt, doubt.wrong);
         }
     }
 
     fn hear_doubt<R: Wait>(&self, rt: &R, from: ReplicaId, voters: ReplicaSet) {
         self.station.passed_over().hear(rt, from, &voters);
+        self.station.left_out().hear(from);
+    }
+
+    fn left_out(&self) -> ReplicaSet {
+        self.station.left_out().all()
     }
 
     fn view(&self) -> View {
@@ -159,6 +176,12 @@ impl<P: Post> Questioned for Outside<'_, '_, P> {
         let questions = &mut self.station.lock(rt).questions;
         let due = now.saturating_add(questions.wait());
         let _refused = questions.need(block, payer, None, due);
+    }
+
+    fn need_now<R: Wait + Clock>(&self, rt: &R, block: Digest, payer: ReplicaId) -> bool {
+        let now = self.now(rt);
+        let questions = &mut self.station.lock(rt).questions;
+        questions.need(block, payer, None, now).is_ok()
     }
 
     fn need_below<R: Wait + Clock>(

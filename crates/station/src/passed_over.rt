@@ -6,6 +6,7 @@ use std::sync::atomic::Ordering::SeqCst;
 use std::sync::atomic::{AtomicBool, AtomicU64};
 use std::sync::{Mutex, Wait};
 use suspicion::{Doubt, Passing, ReplicaSet, doubt_in};
+use tuning::{LOOK_MILLIS, MOST_UNHEARD_MILLIS, UNHEARD_MILLIS};
 
 /// The replicas whose votes a replica passes over where it leads, under their lock.
 #[derive(Drop)]
@@ -14,6 +15,9 @@ pub(crate) struct PassedOver {
     view: AtomicU64,
     is_asked: AtomicBool,
     are_any: AtomicBool,
+    /// For how many milliseconds more who told something isn't heard, and for how many the next time in this view.
+    unheard: AtomicU64,
+    unheard_next: AtomicU64,
     passing: Mutex<Passing>,
 }
 
@@ -24,14 +28,29 @@ impl PassedOver {
             view: AtomicU64::new(0),
             is_asked: AtomicBool::new(false),
             are_any: AtomicBool::new(false),
+            unheard: AtomicU64::new(0),
+            unheard_next: AtomicU64::new(UNHEARD_MILLIS),
             passing: Mutex::new(Passing::none(config)),
         }
     }
 
-    /// The replica is in this view, and the next refused frame is to be looked at. In another view than before all are heard
-    /// again.
-    pub(crate) fn ask<R: Wait>(&self, rt: &R, view: View) {
+    /// Whether all are heard again at this look of the replica's clock: it is in another view than at the last one, or the time is
+    /// over for which some weren't.
+    fn hears_again(&self, view: View) -> bool {
         if self.view.swap(view.0, SeqCst) != view.0 {
+            self.unheard.store(0, SeqCst);
+            self.unheard_next.store(UNHEARD_MILLIS, SeqCst);
+            return true;
+        }
+        let before = self.unheard.load(SeqCst);
+        let left = before.saturating_sub(LOOK_MILLIS);
+        self.unheard.store(left, SeqCst);
+        before > 0 && left == 0
+    }
+
+    /// The replica's clock looks, once in `LOOK_MILLIS`, and finds it in this view. The next refused frame is to be looked at.
+    pub(crate) fn ask<R: Wait>(&self, rt: &R, view: View) {
+        if self.hears_again(view) {
             self.passing.lock(rt).hear_all();
         }
         self.is_asked.store(true, SeqCst);
@@ -64,8 +83,12 @@ impl PassedOver {
         self.are_any.load(SeqCst) && self.passing.lock(rt).has(voter)
     }
 
-    /// Nobody is any more.
+    /// Nobody is any more. Who told something isn't heard for a while: twice as long as the last time in this view.
     pub(crate) fn forget<R: Wait>(&self, rt: &R) {
+        let millis = self.unheard_next.load(SeqCst);
+        self.unheard.store(millis, SeqCst);
+        let next = millis.saturating_mul(2).min(MOST_UNHEARD_MILLIS);
+        self.unheard_next.store(next, SeqCst);
         self.passing.lock(rt).forget();
         self.are_any.store(false, SeqCst);
     }

@@ -7,6 +7,7 @@ ghost use Rattle.marks.specs.Eyes.{IsOwnerOf};
 use crate::comeback::Comeback;
 use crate::doubts::Doubts;
 use crate::guarded::Guarded;
+use crate::left_out::LeftOut;
 use crate::passed_over::PassedOver;
 use crate::recorder::Recorder;
 use crate::trouble::TroubleSign;
@@ -70,6 +71,7 @@ pub struct Station<'a> {
     pub(crate) doubts: Doubts,
     pub(crate) trouble: TroubleSign,
     pub(crate) passed_over: PassedOver,
+    pub(crate) left_out: LeftOut,
     pub(crate) recorder: Recorder,
     pub(crate) comeback: Comeback,
     /// Up to which height others are to have executed before its workers begin.
@@ -183,6 +185,11 @@ impl<'a> Station<'a> {
     /// Whose votes it passes over.
     pub(crate) fn passed_over(&self) -> &PassedOver {
         &self.passed_over
+    }
+
+    /// Who has to count votes itself.
+    pub(crate) fn left_out(&self) -> &LeftOut {
+        &self.left_out
     }
 
     /// What it recorded for others.

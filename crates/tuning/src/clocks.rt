@@ -60,6 +60,14 @@ pub const MOST_UNDECIDED: u64 = 2 * MOST_CLIMB;
 /// replicas. Shorter: a liar that does harm at times has each leader begin anew. Longer: more votes than needed.
 pub const TROUBLE_MILLIS: u64 = 4000;
 
+/// Milliseconds for which a leader that began anew from its lock doesn't hear who doubted its certificates before, the first time
+/// in a view; twice as many each further time. Longer: one for whom a faulty replica's votes aren't right falls behind. Shorter: who
+/// doubts falsely costs more.
+pub const UNHEARD_MILLIS: u64 = 1000;
+
+/// That is no longer than so many milliseconds.
+pub const MOST_UNHEARD_MILLIS: u64 = 64_000;
+
 /// After which part of what its view may be slow a leader without certificates begins anew without what is pending, and
 /// after twice as much from its lock: one in so many. A smaller part: a correct leader on a slow machine begins anew before
 /// votes came. A greater one: no time is left for the blocks that it takes to come above all that was voted for.
