@@ -10,6 +10,11 @@ use std::time::Clock;
 /// Where it is kept which blocks a replica asked for since a frame had no grounds, and the copies that came. Who keeps none
 /// asks nobody.
 pub trait Questioned {
+    /// Whether a block was asked for, and hasn't come.
+    fn wants<R: Wait>(&self, _rt: &R, _block: &Digest) -> bool {
+        false
+    }
+
     /// A block lacks, by a frame of this payer, on whose account all are to be asked: behind a pause, in which votes may come that
     /// give it grounds.
     fn need<R: Wait + Clock>(&self, _rt: &R, _block: Digest, _payer: ReplicaId) {}

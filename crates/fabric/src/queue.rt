@@ -98,6 +98,18 @@ impl Queue {
         }
     }
 
+    /// The block of a waiting proposal that lacks this one.
+    pub(crate) fn above(&self, block: &Digest) -> Option<Digest> {
+        for number in self.lacking.get(block)? {
+            if let Some(frame) = self.frames.get(number) {
+                if let Carried::Proposal(next) = frame.brings {
+                    return Some(next);
+                }
+            }
+        }
+        None
+    }
+
     /// The first block that no waiting frame brings, from this one down.
     fn first_missing(&self, block: &Digest) -> Digest {
         let mut lacked = *block;

@@ -17,6 +17,7 @@ use signed_frames::Out;
 use std::alloc::{AllocError, Global};
 use std::sync::Wait;
 use std::time::Clock;
+use tuning::MOST_ASKED_FOR;
 use turns::{Gate, Share, Steps, gather, offer, turn};
 
 /// For which block a step votes, if for one.
@@ -154,7 +155,7 @@ impl<'a, G: Gate, O: Outgoing + Questioned + Recording> Worker<'a, G, O> {
         let bytes = arrived.bytes.clone()?;
         match arrived.carried() {
             Carried::Proposal(block) => {
-                self.out.need(rt, block, sender);
+                self.need_from(rt, block, sender);
                 let number = arrived.frame.number;
                 self.room.wait_for_grounds(
                     rt,
@@ -171,6 +172,23 @@ impl<'a, G: Gate, O: Outgoing + Questioned + Recording> Worker<'a, G, O> {
                 None => Err(Fault::BadTag),
             },
             Carried::Nothing => Err(Fault::BadTag),
+        }
+    }
+
+    /// All are asked for a block of this sender's that has no grounds, and for those that wait above it: they may have none either
+    /// when it comes, and one question behind another's answer brings less than leaders propose. Where the block was asked for
+    /// before, these were, too.
+    fn need_from<R: Wait + Clock>(&self, rt: &R, block: Digest, sender: ReplicaId) {
+        if self.out.wants(rt, &block) {
+            return;
+        }
+        let mut next = Some(block);
+        for _ in 0..MOST_ASKED_FOR {
+            let Some(block) = next else {
+                break;
+            };
+            self.out.need(rt, block, sender);
+            next = self.room.above(rt, &block);
         }
     }
 
@@ -235,15 +253,6 @@ impl<'a, G: Gate, O: Outgoing + Questioned + Recording> Worker<'a, G, O> {
         }
     }
 
-    /// In trouble all are asked for the block of a proposal that lacks its parent, too: it may have no grounds when that comes, and
-    /// one question behind another's answer brings less than leaders propose.
-    fn ask_ahead<R: Wait + Clock>(&self, rt: &R, frame: &Waiting) {
-        let asks = self.out.in_trouble() && self.out.reach().is_none();
-        if let (true, Carried::Proposal(block)) = (asks, frame.brings) {
-            self.out.need(rt, block, frame.sender);
-        }
-    }
-
     /// Takes a frame that was refused with `UnknownParent`. It waits, and who takes the block later finds it. Where
     /// the replica has another worker, that may have taken the block before the frame began to wait: so the frame
     /// is brought once more.
@@ -261,10 +270,7 @@ impl<'a, G: Gate, O: Outgoing + Questioned + Recording> Worker<'a, G, O> {
         };
         let brings = frame.brings.block();
         match &brings {
-            Some(block) => {
-                self.ask_below(rt, block, frame.lacks, frame.sender);
-                self.ask_ahead(rt, &frame);
-            }
+            Some(block) => self.ask_below(rt, block, frame.lacks, frame.sender),
             // Of an announcement the view counts at once.
             None => {
                 let _seen = self.offer_once(rt, steps, share, arrived);

@@ -190,6 +190,11 @@ impl WaitingRoom {
         frame
     }
 
+    /// The block of a waiting proposal that lacks this one.
+    pub(crate) fn above<R: Wait>(&self, rt: &R, block: &Digest) -> Option<Digest> {
+        self.queue.lock(rt).above(block)
+    }
+
     /// Frames that lack this block are lost.
     pub(crate) fn lose_for<R: Wait>(&self, rt: &R, block: &Digest) {
         let mut queue = self.queue.lock(rt);

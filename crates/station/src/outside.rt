@@ -178,6 +178,10 @@ impl<P: Post> Questioned for Outside<'_, '_, P> {
         let _refused = questions.need(block, payer, None, due);
     }
 
+    fn wants<R: Wait>(&self, rt: &R, block: &Digest) -> bool {
+        self.station.lock(rt).questions.is_wanted(block)
+    }
+
     fn need_now<R: Wait + Clock>(&self, rt: &R, block: Digest, payer: ReplicaId) -> bool {
         let now = self.now(rt);
         let questions = &mut self.station.lock(rt).questions;
