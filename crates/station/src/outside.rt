@@ -155,7 +155,9 @@ impl<P: Post> Outgoing for Outside<'_, '_, P> {
     }
 
     fn hear_doubt<R: Wait>(&self, rt: &R, from: ReplicaId, voters: ReplicaSet) {
-        self.station.passed_over().hear(rt, from, &voters);
+        if self.leads() {
+            self.station.passed_over().hear(rt, from, &voters);
+        }
         self.station.left_out().hear(from);
     }
 
