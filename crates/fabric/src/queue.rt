@@ -235,11 +235,13 @@ impl Queue {
         frame.due = due;
         frame.bottom = self.first_missing(&frame.lacks);
         let (number, lacks, brings) = (frame.number, frame.lacks, frame.brings.block());
-        let bytes = frame.bytes.len();
+        let (bytes, asks) = (frame.bytes.len(), frame.asks);
         if self.frames.insert(number, frame).is_ok() {
             self.bytes = self.bytes.saturating_add(bytes);
             self.enter(number, lacks, brings);
-            let _refused = self.unasked.push_back(number);
+            if asks {
+                let _refused = self.unasked.push_back(number);
+            }
         }
     }
 

@@ -69,7 +69,9 @@ pub(crate) struct Waiting {
     pub(crate) bytes: Bytes,
     /// The first block that no waiting frame brought when it came, from the one that it lacks down.
     pub(crate) bottom: Digest,
-    /// How many parcels must have been done before its sender is asked.
+    /// Whether its sender is asked. Who votes isn't: the block is on its way, and what is proposed on it asks, too.
+    pub(crate) asks: bool,
+    /// How many parcels must have been done before that.
     pub(crate) due: u64,
 }
 
@@ -84,6 +86,7 @@ impl Waiting {
             brings: arrived.carried(),
             bytes: arrived.bytes.clone().ok()?,
             bottom: lacks,
+            asks: !matches!(arrived.frame(), Frame::Vote(_)),
             due: 0,
         })
     }

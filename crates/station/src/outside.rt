@@ -155,8 +155,9 @@ impl<P: Post> Outgoing for Outside<'_, '_, P> {
     }
 
     fn hear_doubt<R: Wait>(&self, rt: &R, from: ReplicaId, voters: ReplicaSet) {
-        if self.leads() {
-            self.station.passed_over().hear(rt, from, &voters);
+        let passed_over = self.station.passed_over();
+        if self.leads() || passed_over.spares(rt, from, &voters) {
+            passed_over.hear(rt, from, &voters);
         }
         self.station.left_out().hear(from);
     }

@@ -78,6 +78,11 @@ impl PassedOver {
         self.are_any.store(true, SeqCst);
     }
 
+    /// Whether a quorum is left without all these.
+    pub(crate) fn spares<R: Wait>(&self, rt: &R, from: ReplicaId, voters: &ReplicaSet) -> bool {
+        self.passing.lock(rt).spares(from, voters)
+    }
+
     /// Whether a replica is.
     pub(crate) fn has<R: Wait>(&self, rt: &R, voter: ReplicaId) -> bool {
         self.are_any.load(SeqCst) && self.passing.lock(rt).has(voter)

@@ -46,6 +46,11 @@ noted p from voters = record p {
   tellers = with_replica p.tellers from;
 }
 
+-- whether those that are passed over, all who told something, this one and these together are no more than may be faulty: then
+-- a quorum is left without them
+abbrev pub spares : PassingState → (from : ℕ) → (voters : List Bool) → Bool
+spares p from voters = nat_le (size (with_replica (both (both p.voters p.tellers) voters) from)) p.most
+
 -- and they are found as far as it's believed
 abbrev pub found : PassingState → (voters : List Bool) → PassingState
 found p voters = record p { voters = passed p.most p.voters voters }

@@ -3,7 +3,7 @@
 ghost use Rattle.std.specs.Prelude.{◌≡◌, ◌<◌, ◌≤◌};
 ghost use Rattle.ids.specs.declared.limits.TheConstants.{MOST_REPLICAS};
 ghost use Rattle.suspicion.specs.ReplicaSets.{both, is_in, nobody, size};
-ghost use Rattle.suspicion.specs.Passing.{believed, found, heard, noted, passed, sure, tellers, without};
+ghost use Rattle.suspicion.specs.Passing.{believed, found, heard, noted, passed, spares, sure, tellers, without};
 
 use crate::replica_set::ReplicaSet;
 use ids::{Config, MOST_REPLICAS, ReplicaId};
@@ -149,6 +149,16 @@ impl Passing {
         self.note(from, voters);
         let voters = self.believed(from, voters);
         self.find(voters);
+    }
+
+    /// Whether a quorum is left without these, of whom a replica told, and without it, where nobody else is left out than those that
+    /// are passed over and all who told something.
+    pub fn spares(&self, from: ReplicaId, voters: &ReplicaSet) -> bool
+        ensures { result ≡ spares self.now from voters.now }
+    {
+        let mut all = self.voters.or(&self.tellers).or(voters);
+        all.add(from);
+        all.len() <= self.most
     }
 
     /// Nobody is passed over any more. Who told something isn't heard.
