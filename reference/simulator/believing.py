@@ -146,6 +146,10 @@ class Voters:
             wrong = {voter for voter, times in tellers.items() if times > self.faults}
         self.find(set(wrong))
 
+    def spares(self, teller, wrong):
+        """Whether a quorum is left without any of them."""
+        return len(self.passed | set(self.told) | wrong | {teller}) <= self.faults
+
     def forget(self):
         self.deaf_to |= set(self.told)
         self.told.clear()

@@ -392,6 +392,9 @@ def passing_over():
     yield "1 hear=3:1 forget hear=0:2 forget hear=3:2 hear=0:1 hear=2:2"
     yield "2 hear=0:6 hear=1:5,6 forget hear=0:6 hear=1:6,5 hear=2:6 hear=3:5 all hear=0:4 hear=1:3"
     yield "10 " + " ".join(f"hear={k}:{k + 1}" for k in range(12)) + " forget hear=0:30 hear=30:0,30"
+    yield "1 spare=3:0 spare=0:0 spare=3:- hear=3:- spare=3:3 spare=0:3 forget spare=0:-"
+    yield "2 spare=6:0 spare=6:0,1 hear=6:0 spare=6:0 spare=5:0 spare=0:6 spare=6:1 find=2 spare=6:0 forget spare=5:4"
+    yield "4 hear=12:0 spare=12:0 spare=11:0,1 hear=11:1 spare=10:12 spare=10:11,12 find=- all spare=9:8"
     yield "1 enough=- enough=0 enough=0,1 enough=0,1,2,3"
     yield "10 enough=" + ",".join(map(str, range(19))) + " enough=" + ",".join(map(str, range(20)))
 

@@ -234,6 +234,9 @@ def tell_voters(fields):
             words.append(" true" if len(numbers(whom)) + 1 >= config.quorum else " false")
             continue
         teller, _, some = whom.partition(":")
+        if name == "spare":
+            words.append(" true" if voters.spares(int(teller), numbers(some)) else " false")
+            continue
         happen = {"find": lambda: voters.find(numbers(whom)), "hear": lambda: voters.hear(int(teller), numbers(some)),
                   "forget": voters.forget, "all": voters.hear_all}
         happen[name]()

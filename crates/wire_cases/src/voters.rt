@@ -4,7 +4,8 @@
 //! - `hear=FROM:NUMBERS`: a replica told so of these.
 //! - `forget` and `all`: the replica leads from its lock; another view began.
 //!
-//! Told is who is passed over after each event. `enough=NUMBERS` tells whether these and one more are a quorum.
+//! Told is who is passed over after each event. `enough=NUMBERS` tells whether these and one more are a quorum, and
+//! `spare=FROM:NUMBERS` whether one is left without these, of whom a replica tells.
 
 use anyhow::{Context, Result, bail};
 use ids::{Config, MOST_REPLICAS, ReplicaId};
@@ -23,13 +24,19 @@ fn set_of(numbers: &str) -> Result<ReplicaSet> {
     Ok(set)
 }
 
+/// A replica, and whom it tells of.
+fn told_by(whom: &str) -> Result<(ReplicaId, ReplicaSet)> {
+    let (from, numbers) = whom.split_once(':').context("who told?")?;
+    Ok((ReplicaId(from.parse()?), set_of(numbers)?))
+}
+
 /// An event happens.
 fn happen(passing: &mut Passing, name: &str, whom: &str) -> Result<()> {
     match name {
         "find" => passing.find(set_of(whom)?),
         "hear" => {
-            let (from, numbers) = whom.split_once(':').context("who told?")?;
-            passing.hear(ReplicaId(from.parse()?), &set_of(numbers)?);
+            let (from, voters) = told_by(whom)?;
+            passing.hear(from, &voters);
         }
         "forget" => passing.forget(),
         "all" => passing.hear_all(),
@@ -57,12 +64,17 @@ pub(crate) fn case_told(alloc: Global, case: &str) -> Result<String> {
     let mut text = String::from_str(alloc, "voters")?;
     for event in events.split(' ') {
         let (name, whom) = event.split_once('=').unwrap_or((event, "-"));
-        if name == "enough" {
-            write!(text, ", {}", are_enough(&set_of(whom)?, config))?;
-        } else {
-            happen(&mut passing, name, whom)?;
-            let passed = passed_told(alloc, &passing)?;
-            write!(text, ",{passed}")?;
+        match name {
+            "enough" => write!(text, ", {}", are_enough(&set_of(whom)?, config))?,
+            "spare" => {
+                let (from, voters) = told_by(whom)?;
+                write!(text, ", {}", passing.spares(from, &voters))?;
+            }
+            _ => {
+                happen(&mut passing, name, whom)?;
+                let passed = passed_told(alloc, &passing)?;
+                write!(text, ",{passed}")?;
+            }
         }
     }
     Ok(text)
