@@ -60,9 +60,15 @@ module _ {S : Type 0} (answers : S → Bytes → Option Bytes → S → Type 0) 
 
   module _ (a m b : State S) (source rest : Option Bytes) (reads reads_now : ℕ) (read held left : Bytes)
       (taken : Consumes source rest read) (before : ServesFront answers a m read held) where
+    -- what serving comes to
+    abbrev pub Ends : Result End Fault → Type 0
+    Ends =
+        IsServed answers (record { state = a; unread = source; failures = reads })
+        (record { state = b; unread = rest; failures = reads_now })
+
     -- the writer failed
     pub ends_cut : reads_now ≡ reads → (e : Fault) → IsRound answers m b held left (Err e)
-        → IsServed answers a b source rest reads reads_now (Err e)
+        → Ends (Err e)
     ends_cut same faults.WriteFailed (inl h) =
         (read, taken, inl (h.0, h.1, front_then answers a h.0 m read held h.1 before h.2, h.3), same)
     ends_cut same faults.WriteFailed (inr h) = (
@@ -80,7 +86,7 @@ module _ {S : Type 0} (answers : S → Bytes → Option Bytes → S → Type 0) 
 
     -- an item ended the connection
     pub ends_by_item : reads_now ≡ reads → (end : End) → ServesHeld answers m b held left (Some end)
-        → IsServed answers a b source rest reads reads_now (Ok end)
+        → Ends (Ok end)
     ends_by_item same end h = (
       read,
       taken,
@@ -123,7 +129,7 @@ module _ {S : Type 0} (answers : S → Bytes → Option Bytes → S → Type 0) 
 
     -- the reader failed
     pub ends_by_reader : CountsOne reads reads_now → ServesHeld answers m b held left None
-        → IsServed answers a b source rest reads reads_now (Err faults.ReadFailed)
+        → Ends (Err faults.ReadFailed)
     ends_by_reader risen h = (
       read,
       taken,
@@ -133,7 +139,7 @@ module _ {S : Type 0} (answers : S → Bytes → Option Bytes → S → Type 0) 
 
     -- the end of the input
     pub ends_by_input : reads_now ≡ reads → IsAtEnd rest → ServesHeld answers m b held left None
-        → IsServed answers a b source rest reads reads_now (Ok Input)
+        → Ends (Ok Input)
     ends_by_input same at_end h =
         let served =
         text_held answers a b read left None (held_then answers a m b read held left None before h) in (

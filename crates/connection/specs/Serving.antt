@@ -123,7 +123,7 @@ module _ {S : Type 0} (answers : S → Bytes → Option Bytes → S → Type 0) 
       pub kept : Keeps old.written new.written
       pub failed : CountsOne old.failures new.failures
 
--- ---- what serving comes to
+-- ---- what serving a text comes to
 
 module _ {S : Type 0} (answers : S → Bytes → Option Bytes → S → Type 0) (old new : State S) where
   -- the writer failed at a reply, of which a part was written, and all before it were written
@@ -139,22 +139,40 @@ module _ {S : Type 0} (answers : S → Bytes → Option Bytes → S → Type 0) 
       ⊎ ((mid : State S) × (end : Option End) × ServesText answers old mid text end
       × FailsFlush answers mid new)
 
-  -- What serving a connection comes to. The reader had the bytes `source` and now has `rest`; `reads` and
-  -- `reads_now` are its counts of failures. Where an item or a read told the end, all that was read was
-  -- served, and so was the whole input, in whatever pieces it came. Where the reader failed, all that was
-  -- read was. Where memory was refused nothing was done; or else 2^64 - 1 reads each gave something, and
-  -- the front of that was served.
-  abbrev pub IsServed : (source rest : Option Bytes) (reads reads_now : ℕ) → Result End Fault → Type 0
-  IsServed source rest reads reads_now (Ok end) =
-      (read : Bytes) × Consumes source rest read × ServesText answers old new read (ending end)
-      × IfSome source (λ input. ServesText answers old new input (ending end))
-      × (end ≡ Input → IsAtEnd rest) × (reads_now ≡ reads)
-  IsServed source rest reads reads_now (Err faults.ReadFailed) =
-      (read : Bytes) × Consumes source rest read × ServesText answers old new read None
-      × CountsOne reads reads_now
-  IsServed source rest reads reads_now (Err faults.WriteFailed) =
-      (read : Bytes) × Consumes source rest read × CutsText read × (reads_now ≡ reads)
-  IsServed source rest reads reads_now (Err faults.Memory) = (((new ≡ old) × (rest ≡ source))
-      ⊎ ((read : Bytes) × (left : Bytes) × Consumes source rest read × (2 ^ 64 - 1 ≤ length read)
-      × ServesFront answers old new read left)) × (reads_now ≡ reads)
-  IsServed source rest reads reads_now (Err _) = ⊥
+-- ---- what serving a connection comes to
+
+-- what lies around a connection: a service with a counted writer, what a reader has left, and how often that failed
+pub record Around (S : Type 0) : Type 0 where
+  pub state : State S
+  pub unread : Option Bytes
+  pub failures : ℕ
+
+abbrev pub around : {S I O : Type 0} → (I → Option Bytes) → (O → Option Bytes) → S → Device I → Device O → Around S
+around remaining contents service reader writer = record {
+  state = state contents service writer;
+  unread = remaining reader.device;
+  failures = reader.failures;
+}
+
+module _ {S : Type 0} (answers : S → Bytes → Option Bytes → S → Type 0) (old new : Around S) where
+  -- these bytes were read
+  abbrev pub Reads : Bytes → Type 0
+  Reads bytes = Consumes old.unread new.unread bytes
+
+  -- Where an item or a read told the end, all that was read was served, and so was the whole input, in whatever
+  -- pieces it came. Where the reader failed, all that was read was. Where memory was refused nothing was done; or
+  -- else 2^64 - 1 reads each gave something, and the front of that was served.
+  abbrev pub IsServed : Result End Fault → Type 0
+  IsServed (Ok end) =
+      (read : Bytes) × Reads read × ServesText answers old.state new.state read (ending end)
+      × IfSome old.unread (λ input. ServesText answers old.state new.state input (ending end))
+      × (end ≡ Input → IsAtEnd new.unread) × (new.failures ≡ old.failures)
+  IsServed (Err faults.ReadFailed) =
+      (read : Bytes) × Reads read × ServesText answers old.state new.state read None
+      × CountsOne old.failures new.failures
+  IsServed (Err faults.WriteFailed) =
+      (read : Bytes) × Reads read × CutsText answers old.state new.state read × (new.failures ≡ old.failures)
+  IsServed (Err faults.Memory) = (((new.state ≡ old.state) × (new.unread ≡ old.unread))
+      ⊎ ((read : Bytes) × (left : Bytes) × Reads read × (2 ^ 64 - 1 ≤ length read)
+      × ServesFront answers old.state new.state read left)) × (new.failures ≡ old.failures)
+  IsServed (Err _) = ⊥

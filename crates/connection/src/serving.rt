@@ -3,7 +3,7 @@ ghost use Rattle.std.specs.Io.KnownBytes.{Consumes};
 ghost use Rattle.ids.specs.declared.fault.Fault.TheVariants.{ReadFailed};
 ghost use Rattle.ids.specs.declared.limits.TheConstants.{MOST_DATA, MOST_LINE};
 ghost use Rattle.connection.specs.Devices.{CountsOne};
-ghost use Rattle.connection.specs.Serving.{IsServed, state};
+ghost use Rattle.connection.specs.Serving.{IsServed, around, state};
 ghost use Rattle.connection.specs.Steps.{IsHeld, IsRound, IsPulled};
 
 use crate::counted::Counted;
@@ -78,10 +78,8 @@ fn serve_pieces<R: Read, W: Write, S: Service>(
     service: &mut S,
 ) -> Result<End, Fault>
     requires { feed.old ≡ [] }
-    ensures { IsServed S.answers (state W.contents service.old writer.old)
-        (state W.contents service.new writer.new)
-        (R.remaining reader.old.device) (R.remaining reader.new.device) reader.old.failures
-        reader.new.failures result }
+    ensures { IsServed S.answers (around R.remaining W.contents service.old reader.old writer.old)
+        (around R.remaining W.contents service.new reader.new writer.new) result }
 {
     let mut reads = 0;
     while reads < u64::MAX {
@@ -115,10 +113,8 @@ pub fn serve<R: Read, W: Write, S: Service>(
     writer: &mut Counted<W>,
     service: &mut S,
 ) -> Result<End, Fault>
-    ensures { IsServed S.answers (state W.contents service.old writer.old)
-        (state W.contents service.new writer.new)
-        (R.remaining reader.old.device) (R.remaining reader.new.device) reader.old.failures
-        reader.new.failures result }
+    ensures { IsServed S.answers (around R.remaining W.contents service.old reader.old writer.old)
+        (around R.remaining W.contents service.new reader.new writer.new) result }
 {
     let mut feed = Feed::new(alloc)?;
     let mut room = Room::new(alloc)?;

@@ -1,6 +1,6 @@
 //! One connection, from its first byte to its last.
 
-ghost use Rattle.connection.specs.Serving.{IsServed};
+ghost use Rattle.connection.specs.Serving.{IsServed, around};
 
 use crate::line::{Line, limit_waiting};
 use crate::seats::{Seat, Seats, Taken};
@@ -36,9 +36,11 @@ fn serve_seat<I: Read, O: Write, S: Seat + Drop>(
     seat: &mut S,
 ) -> Left<I, O>
     ensures { IsServed S.answers
-        (record { service = seat.old; written = O.contents output; failures = 0 })
-        (record { service = seat.new; written = O.contents result.output; failures = result.write_failures })
-        (I.remaining input) (I.remaining result.input) 0 result.read_failures result.end }
+        (around I.remaining O.contents seat.old (record { device = input; failures = 0 })
+        (record { device = output; failures = 0 }))
+        (around I.remaining O.contents seat.new (record { device = result.input; failures = result.read_failures })
+        (record { device = result.output; failures = result.write_failures }))
+        result.end }
 {
     let mut reader = Counted::new(Line::new(input, seats));
     let mut writer = Counted::new(Line::new(output, seats));
