@@ -223,7 +223,7 @@ impl Queue {
         }
     }
 
-    /// Adds a frame, unless one waits that does all that this one would. Its sender is asked once
+    /// Adds a frame, unless one waits that does all that this one would. Its sender, unless it voted, is asked once
     /// so many parcels were done. Where the list is full the oldest goes; and one of the same number, which all of the
     /// replica's own have.
     pub(crate) fn add(&mut self, mut frame: Waiting, due: u64) {

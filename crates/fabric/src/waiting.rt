@@ -172,7 +172,7 @@ impl WaitingRoom {
         self.busy.fetch_add(1, SeqCst);
     }
 
-    /// Lets a frame wait, unless one waits that does all that this one would. Its sender is asked
+    /// Lets a frame wait, unless one waits that does all that this one would. Its sender, unless it voted, is asked
     /// once all workers that are busy now are done: one of them may be taking the block that it
     /// lacks.
     pub(crate) fn wait<R: Wait>(&self, rt: &R, frame: Waiting) {

@@ -72,7 +72,7 @@ impl PassedOver {
         Some(doubt)
     }
 
-    /// Another replica told whose votes in a certificate of this one weren't right for it.
+    /// Another replica told whose votes in a leader's certificate weren't right for it.
     pub(crate) fn hear<R: Wait>(&self, rt: &R, from: ReplicaId, voters: &ReplicaSet) {
         self.passing.lock(rt).hear(from, voters);
         self.are_any.store(true, SeqCst);

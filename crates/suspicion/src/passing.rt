@@ -9,8 +9,7 @@ use crate::replica_set::ReplicaSet;
 use ids::{Config, MOST_REPLICAS, ReplicaId};
 use std::marker::Model;
 
-/// The replicas whose votes weren't right for this one in certificates of its leaders, or for others in certificates of this
-/// one. A certificate with such a vote may be good for its leader alone, or for all but one, who then falls behind. So a leader
+/// The replicas whose votes weren't right for this one in certificates of its leaders, or for others, as they told. A certificate with such a vote may be good for its leader alone, or for all but one, who then falls behind. So a leader
 /// does without it as long as it finds others'.
 ///
 /// What a leader's certificate shows may be made up by that leader, and what others tell by them. So those that are passed
@@ -151,8 +150,8 @@ impl Passing {
         self.find(voters);
     }
 
-    /// Whether a quorum is left without these, of whom a replica told, and without it, where nobody else is left out than those that
-    /// are passed over and all who told something.
+    /// Whether a quorum is left without those that are passed over, all who told something, this replica and these, of whom it
+    /// tells. Then a leader needn't wait for any of them.
     pub fn spares(&self, from: ReplicaId, voters: &ReplicaSet) -> bool
         ensures { result ≡ spares self.now from voters.now }
     {
