@@ -9,8 +9,9 @@ use crate::replica_set::ReplicaSet;
 use ids::{Config, MOST_REPLICAS, ReplicaId};
 use std::marker::Model;
 
-/// The replicas whose votes weren't right for this one in certificates of its leaders, or for others, as they told. A certificate with such a vote may be good for its leader alone, or for all but one, who then falls behind. So a leader
-/// does without it as long as it finds others'.
+/// The replicas whose votes weren't right for this one in certificates of its leaders, or for others, as they told. A
+/// certificate with such a vote may be good for its leader alone, or for all but one, who then falls behind. So a leader does
+/// without it as long as it finds others'.
 ///
 /// What a leader's certificate shows may be made up by that leader, and what others tell by them. So those that are passed
 /// over are never more than may be faulty; and where the replica leads from its lock all is forgotten, and who told
