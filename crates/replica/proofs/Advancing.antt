@@ -44,7 +44,7 @@ use Rattle.replica.specs.Kept.{Variables, StateParts, tree_of, waiting, IsStateO
 use Rattle.replica.specs.Kept.{AreSized}
 use Rattle.replica.specs.Changes.{asked, sent_first}
 use Rattle.replica.specs.Inputs.{IsFitInput}
-use Rattle.replica.specs.Execution.{history_above, IsCut, is_sendable, told}
+use Rattle.replica.specs.Execution.{history_above, work, stretch, IsCutShort, is_sendable, told}
 use Rattle.replica.specs.StepsTo.{halts, Stands, IsRefused}
 use Rattle.replica.specs.Advances.{going, IsWholeOf, Advances}
 use Rattle.replica.specs.declared.standing.Taken.TheVariants.{Sends, Refused, CutShort}
@@ -210,15 +210,15 @@ module _ (keys : Keys) (st : Step) (c : Chronicle) (calm : conflicts st c ≡ fa
 
   -- or a part of it
   history-part : (h new : History) (waits left : List Command) → h ≡ history c
-      → IsCut s.variables.rules.executed.digest (tree_of s.variables) (length (executed c))
-      s.variables.rules.executed.height h new waits left
+      → IsCutShort (stretch s.variables.rules.executed.digest (tree_of s.variables) (length (executed c))
+      s.variables.rules.executed.height) (work h waits) (work new left)
       → IsBetween (st ∷ c) top (length (executed c)) new waits left
   unfolding top history
   history-part h new waits left e k =
-      let cut = subst (λ (b : History). IsCut (digest_of top) (tree_at (st ∷ c)) (length (executed c))
-      (length top) b new waits left) (e ∙ ap history_of (sym begins))
-      (subst (λ (v : Variables). IsCut v.rules.executed.digest (tree_of v) (length (executed c))
-      v.rules.executed.height h new waits left) is.same k) in
+      let cut = subst (λ (b : History). IsCutShort (stretch (digest_of top) (tree_at (st ∷ c))
+      (length (executed c)) (length top)) (work b waits) (work new left)) (e ∙ ap history_of (sym begins))
+      (subst (λ (v : Variables). IsCutShort (stretch v.rules.executed.digest (tree_of v)
+      (length (executed c)) v.rules.executed.height) (work h waits) (work new left)) is.same k) in
       cut-is keys.sizes (st ∷ c) is.sound top top-in (length (executed c)) new waits left
       (horizon-before st c)
       low-in cut
@@ -291,8 +291,8 @@ module _ (keys : Keys) (i : Input) (c : Chronicle) (h : History) (before : h ≡
   -- memory was refused in between
   pub stops-short : (out : List SentBytes) (s after : StateParts) (new : History)
       → Stands keys (ruling (identity_of keys) i c) c out s → after ≡ waiting after.pending s
-      → IsCut s.variables.rules.executed.digest (tree_of s.variables) (length (executed c))
-      s.variables.rules.executed.height h new s.pending after.pending
+      → IsCutShort (stretch s.variables.rules.executed.digest (tree_of s.variables) (length (executed c))
+      s.variables.rules.executed.height) (work h s.pending) (work new after.pending)
       → Advances keys i c CutShort after new
   unfolding on_ruling on_step executes held_history
   stops-short out s after new t a k =

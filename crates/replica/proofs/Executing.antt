@@ -32,8 +32,8 @@ use Rattle.mempool.specs.Pool.{left_after}
 use Rattle.executor.specs.State.{with_commands, new_answers}
 use Rattle.replica.proofs.Waiting.{left-append, shorter, whole-cut, whole-exact}
 use Rattle.signed_frames.specs.Outs.{SentBytes}
-use Rattle.replica.specs.Execution.{seen_at, block_at, commands_at, history_above, IsCutIn, IsCut, told_one}
-use Rattle.replica.specs.Execution.{told}
+use Rattle.replica.specs.Execution.{seen_at, block_at, commands_at, history_above, Work, work, stretch}
+use Rattle.replica.specs.Execution.{after_blocks, IsCutShortIn, IsCutShort, told_one, told}
 
 -- ---- the replies
 
@@ -198,7 +198,8 @@ module _ (keys : Keys) (tip : Bytes) (all : TreeState) (from : ℕ) (old : Histo
       (cs : List Command)
       → IsUpTo keys tip all from height old now waits left first out → commands_at tip (suc height) all ≡ cs
       → height < to
-      → IsCutIn cs now new left rest → IsCut tip all from to old new waits rest
+      → IsCutShortIn cs (work now left) (work new rest)
+      → IsCutShort (stretch tip all from to) (work old waits) (work new rest)
   cuts-up height to now new left rest out cs u e b c =
       let l = u.low in
       let at : height ≡ from + (height - from) = omega (arith, l) in
@@ -207,11 +208,11 @@ module _ (keys : Keys) (tip : Bytes) (all : TreeState) (from : ℕ) (old : Histo
       record {
         blocks = height - from;
         below = omega (arith, l, b);
-        next = subst (λ (x : List Command). IsCutIn x (history_above tip all from (height - from) old) new
-            (left_after (history_above tip all from (height - from) []) waits) rest) (sym same)
-            (subst (λ (x : History). IsCutIn cs x new
-            (left_after (history_above tip all from (height - from) []) waits) rest) u.now_is
-            (subst (λ (x : List Command). IsCutIn cs now new x rest) u.left_are c));
+        next = subst (λ (x : List Command). IsCutShortIn x
+            (after_blocks (stretch tip all from to) (height - from) (work old waits)) (work new rest))
+            (sym same)
+            (subst (λ (x : Work). IsCutShortIn cs x (work new rest))
+            (λ i. work (u.now_is i) (u.left_are i)) c);
       }
 
 -- ---- the blocks of a branch
@@ -406,9 +407,9 @@ module _ (sizes : Sizes) (c : Chronicle) (so : IsSound sizes c) (x : Branch) (m 
       ++ history_of (beginning from x)) (sym cs-are)
 
   pub cut-by : (h : History) (waits left : List Command) → from ≤ length x
-      → IsCutIn (commands_at (digest_of x) (suc (from + blocks)) (tree_at c))
-      (history_above (digest_of x) (tree_at c) from blocks (history_of (beginning from x))) h
-      (left_after (history_above (digest_of x) (tree_at c) from blocks []) waits) left
+      → IsCutShortIn (commands_at (digest_of x) (suc (from + blocks)) (tree_at c))
+      (after_blocks (stretch (digest_of x) (tree_at c) from (length x)) blocks
+      (work (history_of (beginning from x)) waits)) (work h left)
       → IsBetween c x from h waits left
   unfolding entries history_above
   cut-by h waits left f k =
@@ -451,7 +452,7 @@ module _ (sizes : Sizes) (c : Chronicle) (so : IsSound sizes c) (x : Branch) (m 
               entries (suc blocks),
               whole-exact (length h) x top (omega (arith, below)) (omega (arith, held, exact, long))
                   ∙ up-over,
-              k.whole (exact ∙ ap (λ (z : List Command). length z) (sym cs-are))
+              ap (λ (w : Work). w.waits) (k.whole (exact ∙ ap (λ (z : List Command). length z) (sym cs-are)))
                   ∙ sym (left-append
                   (reverse (map entry_of (commands_at (digest_of x) (suc (from + blocks)) (tree_at c))))
                   (entries blocks) waits),
@@ -469,7 +470,8 @@ module _ (sizes : Sizes) (c : Chronicle) (so : IsSound sizes c) (x : Branch) (m 
 
 pub cut-is : (sizes : Sizes) (c : Chronicle) → IsSound sizes c → (x : Branch) → Among x (window c)
     → (from : ℕ) (h : History) (waits left : List Command) → horizon c ≤ from → from ≤ length x
-    → IsCut (digest_of x) (tree_at c) from (length x) (history_of (beginning from x)) h waits left
+    → IsCutShort (stretch (digest_of x) (tree_at c) from (length x))
+    (work (history_of (beginning from x)) waits) (work h left)
     → IsBetween c x from h waits left
 cut-is sizes c so x m from h waits left r f k =
     cut-by sizes c so x m from k.blocks r k.below h waits left f k.next

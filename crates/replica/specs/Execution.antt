@@ -1,6 +1,6 @@
 -- What is executed between two blocks of a branch, and the replies to it.
 use Rattle.ids.specs.declared.limits.TheConstants.{BELOW_HORIZON, MOST_TEXT}
-use Rattle.std.specs.Prelude.{ℕ, zero, suc, ◌+◌, ◌<◌, ◌≤◌, ◌≡◌, ◌&&◌, ◌++◌, Bool, List, [], ◌∷◌, map}
+use Rattle.std.specs.Prelude.{ℕ, zero, suc, ◌+◌, ◌-◌, ◌<◌, ◌≤◌, ◌≡◌, ◌&&◌, ◌++◌, Bool, List, [], ◌∷◌, map}
 use Rattle.std.specs.Prelude.{reverse, take, length, if◌then◌else◌, option_to_list, nat_lt, nat_le, Option}
 use Rattle.std.specs.Prelude.{Some, None, option_map, ◌||◌, ◌==◌}
 use Rattle.definitions.specs.Branches.{Branch}
@@ -42,24 +42,51 @@ history_above tip t from zero h = h
 history_above tip t from (suc n) h =
     with_commands (commands_at tip (suc (from + n)) t) (history_above tip t from n h)
 
+-- what executing changes: the history, and the commands that wait
+pub record Work : Type 0 where
+  pub history : History
+  pub waits : List Command
+
+abbrev pub work : History → List Command → Work
+work h waits = record { history = h; waits = waits }
+
+-- once these commands are executed
+abbrev pub after_commands : List Command → Work → Work
+after_commands cs w = work (with_commands cs w.history) (left_after (reverse (map entry_of cs)) w.waits)
+
+-- the blocks of a branch above one height, up to another
+pub record Stretch : Type 0 where
+  pub tip : Bytes
+  pub tree : TreeState
+  pub from : ℕ
+  pub to : ℕ
+
+abbrev pub stretch : Bytes → TreeState → (from to : ℕ) → Stretch
+stretch tip t from to = record { tip = tip; tree = t; from = from; to = to }
+
+-- once so many of them are executed, and once all are
+abbrev pub after_blocks : Stretch → (count : ℕ) → Work → Work
+after_blocks s n w = work (history_above s.tip s.tree s.from n w.history)
+    (left_after (history_above s.tip s.tree s.from n []) w.waits)
+
+abbrev pub after_all : Stretch → Work → Work
+after_all s w = after_blocks s (s.to - s.from) w
+
 -- Of the commands of a block some were executed, perhaps all. The requests that wait changed only if all
 -- were.
-pub record IsCutIn (commands : List Command) (old new : History) (waits left : List Command) : Type 0 where
+pub record IsCutShortIn (commands : List Command) (old new : Work) : Type 0 where
   pub count : ℕ
   pub some : 1 ≤ length commands
   pub most : count ≤ length commands
-  pub history : new ≡ with_commands (take count commands) old
-  pub in_part : count < length commands → left ≡ waits
-  pub whole : count ≡ length commands → left ≡ left_after (reverse (map entry_of commands)) waits
+  pub history : new.history ≡ with_commands (take count commands) old.history
+  pub in_part : count < length commands → new.waits ≡ old.waits
+  pub whole : count ≡ length commands → new ≡ after_commands commands old
 
--- some blocks above a height were executed, and the next one was cut short
-pub record IsCut (tip : Bytes) (t : TreeState) (from to : ℕ) (old new : History)
-    (waits left : List Command) : Type 0 where
+-- some blocks of a stretch were executed, and the next one was cut short
+pub record IsCutShort (s : Stretch) (old new : Work) : Type 0 where
   pub blocks : ℕ
-  pub below : from + blocks < to
-  pub next : IsCutIn (commands_at tip (suc (from + blocks)) t)
-      (history_above tip t from blocks old) new
-      (left_after (history_above tip t from blocks []) waits) left
+  pub below : s.from + blocks < s.to
+  pub next : IsCutShortIn (commands_at s.tip (suc (s.from + blocks)) s.tree) (after_blocks s blocks old) new
 
 -- an answer that a frame of these sizes can carry: those to executed commands are
 abbrev pub is_sendable : Sizes → Answer → Bool

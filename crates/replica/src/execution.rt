@@ -1,14 +1,13 @@
 //! Executing what was decided.
 
 ghost use Rattle.ids.specs.declared.limits.TheConstants.{MOST_TEXT};
-ghost use Rattle.std.specs.Prelude.{◌≡◌, ◌<◌, ◌≤◌, ◌-◌, ◌++◌, [], map, reverse, length, option_map};
-ghost use Rattle.std.specs.Prelude.{option_to_list, OnOk, OnErr, IfOk, IfSome, IfNone};
-ghost use Rattle.definitions.specs.Histories.{entry_of};
-ghost use Rattle.mempool.specs.Pool.{left_after};
+ghost use Rattle.std.specs.Prelude.{◌≡◌, ◌<◌, ◌≤◌, ◌++◌, length, option_map, option_to_list};
+ghost use Rattle.std.specs.Prelude.{OnOk, OnErr, IfOk, IfSome, IfNone};
 ghost use Rattle.replica.specs.Kept.{waiting, tree_of};
-ghost use Rattle.executor.specs.State.{with_commands, new_answers};
+ghost use Rattle.executor.specs.State.{new_answers};
 ghost use Rattle.signed_frames.specs.Outs.{sent_of};
-ghost use Rattle.replica.specs.Execution.{history_above, IsCutIn, IsCut, told_one, told};
+ghost use Rattle.replica.specs.Execution.{work, stretch, after_commands, after_all, IsCutShortIn, IsCutShort};
+ghost use Rattle.replica.specs.Execution.{told_one, told};
 
 use crate::branch::block_at;
 use crate::state::State;
@@ -108,16 +107,14 @@ fn execute_block<L: Ledger>(
 ) -> Result<(), Fault>
     requires room { executor.old.most_keys ≡ teller.now.keyring.now.sizes.most_keys }
     ensures room { executor.new.most_keys ≡ executor.old.most_keys }
-    ensures executed { OnOk result (executor.new.history
-        ≡ with_commands block.now.core.commands executor.old.history) }
+    ensures executed { OnOk result (work executor.new.history pool.new
+        ≡ after_commands block.now.core.commands (work executor.old.history pool.old)) }
     ensures written { L.holds ledger.old executor.old.history → L.holds ledger.new executor.new.history }
-    ensures left { OnOk result
-        (pool.new ≡ left_after (reverse (map entry_of block.now.core.commands)) pool.old) }
     ensures told { OnOk result
         (out.new ≡ out.old ++ told teller.now.keyring.now
         (new_answers teller.now.keyring.now.sizes.most_keys executor.old.history executor.new.history)) }
-    ensures cut { OnErr result (IsCutIn block.now.core.commands executor.old.history
-        executor.new.history pool.old pool.new) }
+    ensures cut { OnErr result (IsCutShortIn block.now.core.commands (work executor.old.history pool.old)
+        (work executor.new.history pool.new)) }
 {
     let answers = executor.run_block(block.core().commands(), ledger)?;
     pool.drop_all_executed(block.core().commands());
@@ -137,19 +134,16 @@ fn execute_all<L: Ledger>(
     ensures room { executor.new.most_keys ≡ executor.old.most_keys }
     ensures executed { OnOk result (
         let d = decided.now in
-        executor.new.history
-        ≡ history_above d.tip.now d.tree.now d.from (d.to - d.from) executor.old.history) }
+        work executor.new.history pool.new
+        ≡ after_all (stretch d.tip.now d.tree.now d.from d.to) (work executor.old.history pool.old)) }
     ensures written { L.holds ledger.old executor.old.history → L.holds ledger.new executor.new.history }
-    ensures left { OnOk result (
-        let d = decided.now in
-        pool.new ≡ left_after (history_above d.tip.now d.tree.now d.from (d.to - d.from) []) pool.old) }
     ensures told { OnOk result
         (out.new ≡ out.old ++ told teller.now.keyring.now
         (new_answers teller.now.keyring.now.sizes.most_keys executor.old.history executor.new.history)) }
     ensures cut { OnErr result (
         let d = decided.now in
-        IsCut d.tip.now d.tree.now d.from d.to executor.old.history executor.new.history pool.old
-        pool.new) }
+        IsCutShort (stretch d.tip.now d.tree.now d.from d.to) (work executor.old.history pool.old)
+        (work executor.new.history pool.new)) }
 {
     for height in decided.from..decided.to {
         if let Some(block) = block_at(decided.tree, decided.tip, Height(height + 1)) {
@@ -174,22 +168,17 @@ pub(crate) fn execute<L: Ledger>(
     ensures rest { state.new ≡ waiting state.new.pending state.old }
     ensures executed { OnOk result (
         let last = state.old.variables.rules.executed in
-        executor.new.history
-        ≡ history_above last.digest (tree_of state.old.variables) from (last.height - from)
-        executor.old.history) }
+        work executor.new.history state.new.pending
+        ≡ after_all (stretch last.digest (tree_of state.old.variables) from last.height)
+        (work executor.old.history state.old.pending)) }
     ensures written { L.holds ledger.old executor.old.history → L.holds ledger.new executor.new.history }
-    ensures left { OnOk result (
-        let last = state.old.variables.rules.executed in
-        state.new.pending
-        ≡ left_after (history_above last.digest (tree_of state.old.variables) from (last.height - from) [])
-        state.old.pending) }
     ensures told { OnOk result
         (out.new ≡ out.old ++ told keyring.now
         (new_answers keyring.now.sizes.most_keys executor.old.history executor.new.history)) }
     ensures cut { OnErr result (
         let last = state.old.variables.rules.executed in
-        IsCut last.digest (tree_of state.old.variables) from last.height executor.old.history executor.new.history
-        state.old.pending state.new.pending) }
+        IsCutShort (stretch last.digest (tree_of state.old.variables) from last.height)
+        (work executor.old.history state.old.pending) (work executor.new.history state.new.pending)) }
 {
     let last = state.rules.executed();
     let decided = Decided {

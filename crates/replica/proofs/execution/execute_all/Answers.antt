@@ -2,7 +2,7 @@ use Rattle.std.proofs.Common.{refl, ◌≡◌, ◌+◌, ◌++◌, ℕ, suc, [], 
 use Rattle.executor.proofs.Texts.{on_err}
 use Rattle.definitions.specs.Frames.{Core}
 use Rattle.mempool.specs.Pool.{left_after}
-use Rattle.replica.specs.Execution.{commands_at, history_above, told}
+use Rattle.replica.specs.Execution.{commands_at, history_above, Work, work, stretch, after_blocks, told}
 use Rattle.executor.specs.State.{Execution, new_answers}
 use Rattle.replica.proofs.Executing.{all-heights, IsUpTo, commands-some, commands-none, begins-up, goes-up}
 use Rattle.replica.proofs.Executing.{passes-up, told-up, cuts-up}
@@ -60,8 +60,9 @@ loop-height-preserved g c =
             c.loop-height.executor.history c.match-block_at.executor.history c.loop-height.pool
             c.match-block_at.pool
             c.loop-height.out c.match-block_at.out _ c.loop-height.invariant.0 cs
-            (ap (λ (x : Execution). x.history) w.executor-is ∙ w.in_ok-execute_block.ensures.executed)
-            (w.pool-is ∙ w.in_ok-execute_block.ensures.left)
+            (ap (λ (x : Execution). x.history) w.executor-is
+            ∙ ap (λ (x : Work). x.history) w.in_ok-execute_block.ensures.executed)
+            (w.pool-is ∙ ap (λ (x : Work). x.waits) w.in_ok-execute_block.ensures.executed)
             (w.out-is ∙ w.in_ok-execute_block.ensures.told
             ∙ ap (λ (x : Execution). c.loop-height.out
             ++ told keys (new_answers keys.sizes.most_keys c.loop-height.executor.history x.history))
@@ -94,18 +95,10 @@ loop-height-preserved g c =
 
 pub returns-clause-executed : goal.returns-clause-executed
 returns-clause-executed g c =
-    c.loop-height.invariant.0.now_is
-    ∙ ap (λ (n : ℕ). history_above c.args.decided.now.tip.now c.args.decided.now.tree.now
-    c.args.decided.now.from n c.args.executor.now.history)
-    (all-heights c.args.decided.now.from c.args.decided.now.to c.loop-height.height c.loop-height.invariant.2
-    c.loop-height-test.false c.loop-height.auto.height-end)
-
-pub returns-clause-left : goal.returns-clause-left
-returns-clause-left g c =
-    c.loop-height.invariant.0.left_are
-    ∙ ap (λ (n : ℕ). left_after (history_above c.args.decided.now.tip.now c.args.decided.now.tree.now
-    c.args.decided.now.from n [])
-    c.args.pool.now)
+    let d = c.args.decided.now in
+    (λ i. work (c.loop-height.invariant.0.now_is i) (c.loop-height.invariant.0.left_are i))
+    ∙ ap (λ (n : ℕ). after_blocks (stretch d.tip.now d.tree.now d.from d.to) n
+    (work c.args.executor.now.history c.args.pool.now))
     (all-heights c.args.decided.now.from c.args.decided.now.to c.loop-height.height c.loop-height.invariant.2
     c.loop-height-test.false c.loop-height.auto.height-end)
 

@@ -4,6 +4,7 @@ use Rattle.definitions.specs.Frames.{Command, Core}
 use Rattle.definitions.specs.Histories.{Answer, entry_of}
 use Rattle.mempool.specs.Pool.{left_after}
 use Rattle.executor.specs.State.{with_commands, new_answers}
+use Rattle.replica.specs.Execution.{work}
 use Rattle.replica.proofs.Executing.{some-told, on-err}
 use Rattle.replica.proofs.execution.execute_block.Goals as goal
 
@@ -28,6 +29,6 @@ returns-clause-cut g c =
           (sym (take_all (length all) all (omega arith)));
       in_part = λ k. absurd (omega (arith, k));
       whole =
-          λ e. c.drop_all_executed.ensures
-          ∙ ap (λ (x : List Command). left_after (reverse (map entry_of x)) c.args.pool.now) again;
+          λ e i. work (executed i) ((c.drop_all_executed.ensures
+          ∙ ap (λ (x : List Command). left_after (reverse (map entry_of x)) c.args.pool.now) again) i);
     })

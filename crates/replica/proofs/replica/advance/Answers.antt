@@ -5,7 +5,7 @@ use Rattle.replica.specs.Kept.{Variables, StateParts, waiting, tree_of}
 use Rattle.definitions.specs.Frames.{Command}
 use Rattle.mempool.specs.Pool.{left_after}
 use Rattle.admission.specs.Inputs.{input_of}
-use Rattle.replica.specs.Execution.{history_above, IsCut}
+use Rattle.replica.specs.Execution.{history_above, Work, work, stretch, IsCutShort}
 use Rattle.replica.proofs.Logging.{LogsOf}
 use Rattle.replica.proofs.Advancing.{history-going, sends-all, stops-short, refuses}
 use Rattle.replica.proofs.replica.advance.Goals as goal
@@ -29,13 +29,13 @@ returns-in-Ok-execute-clause-advances g c c' o =
     c.execute.new.executor.history (c.in-Ok.ensures.steps c' o)
     (subst (λ (n : ℕ). c.execute.new.executor.history
     ≡ history_above last.digest (tree_of c.take.new.state.variables) n (last.height - n)
-    c.args.executor.now.history) from c.in-Ok-execute.ensures.executed)
+    c.args.executor.now.history) from (ap (λ (w : Work). w.history) c.in-Ok-execute.ensures.executed))
     (subst (λ (n : ℕ). c.execute.new.state
     ≡ waiting (left_after
     (history_above last.digest (tree_of c.take.new.state.variables) n (last.height - n) [])
     c.take.new.state.pending) c.take.new.state) from
     (c.execute.ensures.rest
-    ∙ ap (λ (l : List Command). waiting l c.take.new.state) c.in-Ok-execute.ensures.left))
+    ∙ ap (λ (w : Work). waiting w.waits c.take.new.state) c.in-Ok-execute.ensures.executed))
     c.in-Ok-execute.ensures.told
 
 pub returns-in-Err-execute-clause-advances : goal.returns-in-Err-execute-clause-advances
@@ -50,8 +50,9 @@ returns-in-Err-execute-clause-advances g c c' o =
     c.in-Ok.ensures.fit c.in-Ok.out c.take.new.state c.execute.new.state c.execute.new.executor.history
     (c.in-Ok.ensures.steps c' o)
     c.execute.ensures.rest
-    (subst (λ (n : ℕ). IsCut last.digest (tree_of c.take.new.state.variables) n last.height
-    c.args.executor.now.history c.execute.new.executor.history c.take.new.state.pending c.execute.new.state.pending) from
+    (subst (λ (n : ℕ). IsCutShort (stretch last.digest (tree_of c.take.new.state.variables) n last.height)
+    (work c.args.executor.now.history c.take.new.state.pending)
+    (work c.execute.new.executor.history c.execute.new.state.pending)) from
     c.in-Err-execute.ensures.cut)
 
 pub returns-in-Ok-execute-clause-logged : goal.returns-in-Ok-execute-clause-logged
