@@ -5,6 +5,7 @@ use crate::fronts::{Front, Fronts};
 use crate::holding::hold;
 use crate::numbering::{Clerk, Numbering};
 use crate::peers::{endpoint, new_life, replicas};
+use crate::process_runtime::ProcessRuntime;
 use crate::refusal::Refusal;
 use crate::replies::Replies;
 use crate::wire_requests::WireRequests;
@@ -14,18 +15,15 @@ use deployment::Deployment;
 use fabric::{ClientEnd, ClientLinks};
 use ids::{ClientId, Fault, ReplicaId, Seq};
 use key_file::HeldKeys;
-use log::Log;
 use state_marks::{Directory, Numbers};
 use std::alloc::Global;
-use std::fs::File;
-use std::net::{Net, TcpListener, TcpStream};
+use std::net::{Net, TcpListener};
 use std::random::RandomSource;
 use std::rt::Files;
 use std::sync::atomic::AtomicBool;
 use std::sync::atomic::Ordering::SeqCst;
 use std::sync::{Arc, Wait};
 use std::thread;
-use std::thread::Threads;
 use std::time::Clock;
 use tcp_front::{Seats, front};
 use wires::{Pace, Wires};
@@ -128,18 +126,7 @@ fn serve<R>(
     most: u64,
 ) -> Result<u64, Fault>
 where
-    R: Threads
-        + Wait
-        + Clock
-        + Sync
-        + Send
-        + AllocGlobal
-        + Clone
-        + Drop
-        + Log
-        + RandomSource
-        + Files
-        + Net<Listener = TcpListener, Stream = TcpStream>,
+    R: ProcessRuntime,
 {
     let is_done = AtomicBool::new(false);
     let (is_done, wires) = (&is_done, desk.requests.wires());
@@ -173,18 +160,7 @@ pub fn run_front<R>(
     listener: &TcpListener,
 ) -> Result<u64, Refusal>
 where
-    R: Threads
-        + Wait
-        + Clock
-        + Sync
-        + Send
-        + AllocGlobal
-        + Clone
-        + Drop
-        + Log
-        + RandomSource
-        + Files<File = File>
-        + Net<Listener = TcpListener, Stream = TcpStream>,
+    R: ProcessRuntime,
 {
     let alloc = rt.alloc();
     let _held = hold(rt, state)?;

@@ -10,6 +10,7 @@ use crate::fronts::Fronts;
 use crate::holding::hold;
 use crate::peers::{add_fronts, endpoint, new_life, replicas};
 use crate::pending::Pending;
+use crate::process_runtime::ProcessRuntime;
 use crate::refusal::Refusal;
 use crate::replica_rows::Row;
 use crate::telling::Teller;
@@ -24,15 +25,14 @@ use marks::{Eye, Marks, Watcher};
 use state_marks::{Directory, Numbers};
 use station::{Sights, Station, Terms, WorkerStart, build_station, run_worker, watch};
 use std::alloc::Global;
-use std::fs::File;
-use std::net::{Net, TcpListener, TcpStream};
+use std::net::{Net, TcpListener};
 use std::random::RandomSource;
 use std::rt::Files;
 use std::sync::atomic::AtomicBool;
 use std::sync::atomic::Ordering::SeqCst;
 use std::sync::{Arc, Wait};
 use std::thread;
-use std::thread::{Scope, Threads};
+use std::thread::Scope;
 use std::time::Clock;
 use wires::{Pace, PeerTerms, Wires};
 
@@ -171,16 +171,7 @@ fn run_all<R>(
     attendant: &Attendant<'_>,
 ) -> Option<Fault>
 where
-    R: Threads
-        + Wait
-        + Clock
-        + Sync
-        + Send
-        + AllocGlobal
-        + Log
-        + RandomSource
-        + Files
-        + Net<Listener = TcpListener, Stream = TcpStream>,
+    R: ProcessRuntime,
 {
     let around = place.around;
     let post = around.post(rt.alloc());
@@ -290,16 +281,7 @@ fn run_station<R>(
     terms: &Terms,
 ) -> Result<Option<Fault>, Refusal>
 where
-    R: Threads
-        + Wait
-        + Clock
-        + Sync
-        + Send
-        + AllocGlobal
-        + Log
-        + RandomSource
-        + Files
-        + Net<Listener = TcpListener, Stream = TcpStream>,
+    R: ProcessRuntime,
 {
     let (alloc, replicas) = (rt.alloc(), keyring.config().n());
     let link = Arc::try_clone(&around.inbox)?;
@@ -334,16 +316,7 @@ pub fn run_replica<R>(
     listener: &TcpListener,
 ) -> Result<Option<Fault>, Refusal>
 where
-    R: Threads
-        + Wait
-        + Clock
-        + Sync
-        + Send
-        + AllocGlobal
-        + Log
-        + RandomSource
-        + Files<File = File>
-        + Net<Listener = TcpListener, Stream = TcpStream>,
+    R: ProcessRuntime,
 {
     let (alloc, number) = (rt.alloc(), terms.number);
     let _held = hold(rt, state)?;

@@ -4,13 +4,9 @@ use crate::asking_clients::{after_return, at_first, without_one};
 use crate::deployed::Deployed;
 use crate::running::{run_as_replica, stop};
 use anyhow::Result;
-use log::Log;
-use std::fs::File;
-use std::net::{Net, TcpListener, TcpStream};
-use std::random::RandomSource;
+use apart::ProcessRuntime;
 use std::rt::Files;
 use std::sync::Wait;
-use std::thread::Threads;
 use std::time::Clock;
 
 /// Prints how a process ended, once it did.
@@ -39,8 +35,7 @@ where
 /// Plays the scene.
 pub(crate) fn play<R>(rt: &R, deployed: &Deployed) -> Result<()>
 where
-    R: Threads + Wait + Clock + Sync + Send + AllocGlobal + Log + Print,
-    R: RandomSource + Files<File = File> + Net<Listener = TcpListener, Stream = TcpStream>,
+    R: ProcessRuntime + Print,
 {
     at_first(rt, deployed)?;
     tell(rt, deployed, "front 0", 4)?;

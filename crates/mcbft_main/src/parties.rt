@@ -1,20 +1,14 @@
 //! What the program does as one party of a deployment: a replica, or a front.
 
 use crate::party_faults::PartyFault;
-use apart::{FrontTerms, ReplicaTerms, holder_of_front, run_front, run_replica};
+use apart::{FrontTerms, ProcessRuntime, ReplicaTerms, holder_of_front, run_front, run_replica};
 use command_line::{Files as Paths, FrontOptions, ReplicaOptions};
 use deployment::Deployment;
 use ids::{Fault, ReplicaId};
 use key_file::{HeldKeys, Holder};
-use log::Log;
-use std::fs::File;
 use std::io::ErrorKind;
 use std::net::{Net, TcpListener, TcpStream, ToSocketAddrs};
-use std::random::RandomSource;
 use std::rt::Files;
-use std::sync::Wait;
-use std::thread::Threads;
-use std::time::Clock;
 use std::{fs, str};
 
 /// The bytes of a file.
@@ -78,8 +72,7 @@ pub(crate) fn run_as_replica<R>(
     options: &ReplicaOptions<'_>,
 ) -> Result<Option<Fault>, PartyFault>
 where
-    R: Threads + Wait + Clock + Sync + Send + Drop + AllocGlobal + Log + Print,
-    R: Files<File = File> + RandomSource + Net<Listener = TcpListener, Stream = TcpStream>,
+    R: ProcessRuntime + Print,
 {
     let (paths, number) = (&options.files, ReplicaId(options.number));
     let text = read_file(rt, paths.deployment, PartyFault::CannotReadDeployment)?;
@@ -96,8 +89,7 @@ where
 /// Runs a front as the options ask, to its end. How many connections it served.
 pub(crate) fn run_as_front<R>(rt: &R, options: &FrontOptions<'_>) -> Result<u64, PartyFault>
 where
-    R: Threads + Wait + Clock + Sync + Send + Clone + Drop + AllocGlobal + Log + Print,
-    R: Files<File = File> + RandomSource + Net<Listener = TcpListener, Stream = TcpStream>,
+    R: ProcessRuntime + Print,
 {
     let (alloc, paths) = (rt.alloc(), &options.files);
     let text = read_file(rt, paths.deployment, PartyFault::CannotReadDeployment)?;

@@ -4,15 +4,11 @@ use crate::faults::MainFault;
 use command_line::Options;
 use ids::Fault;
 use key_file::PairKeys;
-use log::Log;
-use server::{Ended, run};
+use server::{Ended, Runtime, run};
 use std::fs;
 use std::io::ErrorKind;
 use std::net::{Net, TcpListener, TcpStream};
 use std::rt::Files;
-use std::sync::Wait;
-use std::thread::Threads;
-use std::time::Clock;
 
 /// The keys of all parties, from their file.
 fn read_keys<R: AllocGlobal + Files>(rt: &R, options: &Options<'_>) -> Result<PairKeys, MainFault> {
@@ -45,8 +41,7 @@ where
 /// Serves as the options ask, to the end.
 pub(crate) fn serve<R>(rt: &R, options: &Options<'_>) -> Result<Ended, MainFault>
 where
-    R: Threads + Wait + Clock + Sync + Send + Clone + Drop + AllocGlobal + Log + Files + Print,
-    R: Net<Listener = TcpListener, Stream = TcpStream>,
+    R: Runtime + Files + Print + Net<Listener = TcpListener, Stream = TcpStream>,
 {
     let keys = read_keys(rt, options)?;
     let listener = listen(rt, options.port)?;

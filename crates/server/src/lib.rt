@@ -15,4 +15,4 @@ mod watching;
 
 pub use ending::{EndAudit, judge_all};
 pub use running::{Ended, run};
-pub use station::{Liars, Terms, Workers};
+pub use station::{Liars, Runtime, Terms, Workers};

@@ -15,13 +15,13 @@ use ids::Fault;
 use key_file::PairKeys;
 use log::{Log, warn};
 use marks::{Marks, Watcher};
-use station::{Sights, Station, Terms, WorkerStart, run_worker, stations, watch};
+use station::{Runtime, Sights, Station, Terms, WorkerStart, run_worker, stations, watch};
 use std::net::TcpListener;
 use std::sync::atomic::AtomicBool;
 use std::sync::atomic::Ordering::SeqCst;
 use std::sync::{Arc, Wait};
 use std::thread;
-use std::thread::{Scope, Threads};
+use std::thread::Scope;
 use std::time::Clock;
 use tcp_front::{Closer, Seats, front};
 
@@ -101,7 +101,7 @@ impl<'a, S: Drop> Deployment<'a, S> {
 }
 
 /// Starts the threads of one of the stations: its workers and its clock. Whether all could be had.
-fn start_station<'s, E, R: Wait + Clock + Sync + Send + AllocGlobal + Log + Clone + Drop>(
+fn start_station<'s, E, R: Runtime>(
     rt: &'s R,
     scope: &Scope<'s, E>,
     station: &'s Station<'_>,
@@ -120,7 +120,7 @@ fn start_station<'s, E, R: Wait + Clock + Sync + Send + AllocGlobal + Log + Clon
 }
 
 /// Starts the threads of all stations. Whether all could be had.
-fn start_stations<'s, E, R: Wait + Clock + Sync + Send + AllocGlobal + Log + Clone + Drop>(
+fn start_stations<'s, E, R: Runtime>(
     rt: &'s R,
     scope: &Scope<'s, E>,
     stations: &'s [Station<'_>],
@@ -137,7 +137,7 @@ fn start_stations<'s, E, R: Wait + Clock + Sync + Send + AllocGlobal + Log + Clo
 }
 
 /// Starts all stations, and serves as many connections as the terms say. All threads have ended when it returns.
-fn serve_at<R: Threads + Wait + Clock + Sync + Send + AllocGlobal + Log + Clone + Drop>(
+fn serve_at<R: Runtime>(
     rt: &R,
     deployment: &Deployment<'_, ClientSeat<R, Local>>,
     stations: &[Station<'_>],
@@ -180,7 +180,7 @@ fn serve_at<R: Threads + Wait + Clock + Sync + Send + AllocGlobal + Log + Clone 
 /// be answered any more: services refuse at once then, requests that are out get two seconds, and no
 /// connection is accepted. `Memory` where memory was refused before a thread began, `AcceptFailed`
 /// where the listener can't be had twice; the other refusals aren't expected.
-pub fn run<R: Threads + Wait + Clock + Sync + Send + AllocGlobal + Log + Clone + Drop>(
+pub fn run<R: Runtime>(
     rt: &R,
     keys: &PairKeys,
     listener: &TcpListener,

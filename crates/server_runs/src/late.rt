@@ -5,14 +5,13 @@ use crate::{ask, tell};
 use anyhow::Result;
 use ids::Height;
 use key_file::PairKeys;
-use log::Log;
-use server::{EndAudit, Terms, Workers, run};
+use server::{EndAudit, Runtime, Terms, Workers, run};
 use std::hash::RandomState;
 use std::net::{Net, SocketAddr, TcpListener, TcpStream};
 use std::random::RandomSource;
 use std::sync::Wait;
 use std::thread;
-use std::thread::{Threads, join};
+use std::thread::join;
 use std::time::{Clock, Duration};
 
 /// So many sets, one after the other. Each takes four blocks, since three have to stand on its own.
@@ -46,8 +45,7 @@ fn client<R: Net<Stream = TcpStream> + Wait + Clock + AllocGlobal>(
 /// can't be compared with them.
 pub(crate) fn late_replica<R>(rt: &R, keys: &PairKeys) -> Result<()>
 where
-    R: Threads + Wait + Clock + Sync + Send + Clone + Drop + AllocGlobal + Print + RandomSource,
-    R: Net<Listener = TcpListener, Stream = TcpStream> + Log,
+    R: Runtime + Print + RandomSource + Net<Listener = TcpListener, Stream = TcpStream>,
 {
     println!(rt; "a replica that begins late")?;
     let listener = TcpListener::bind(rt, "127.0.0.1:0")?;

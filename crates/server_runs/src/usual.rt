@@ -8,7 +8,7 @@ use command_line::{Options, matches_of, words_of};
 use log::kv::Source;
 use log::span::Spans;
 use log::{Level, Line, Log, Logged, Metadata, Record};
-use server::{Ended, run};
+use server::{Ended, Runtime, run};
 use std::alloc::Global;
 use std::fmt::Display;
 use std::hash::RandomState;
@@ -297,7 +297,7 @@ fn run_with<R, L>(rt: &R, told: &L, words: &[&str], clients: Clients<'_>) -> Res
 where
     R: Threads + Wait + Clock + Sync + AllocGlobal + Print + RandomSource,
     R: Net<Listener = TcpListener, Stream = TcpStream>,
-    L: Threads + Wait + Clock + Sync + Send + Clone + Drop + AllocGlobal + Log,
+    L: Runtime,
 {
     let matches = matches_of(rt.alloc(), words)?;
     let Some(options) = Options::read(&matches, RandomState::new(rt)?) else {
@@ -317,8 +317,7 @@ where
 /// Runs these deployments.
 pub(crate) fn usual_runs<R>(rt: &R) -> Result<()>
 where
-    R: Threads + Wait + Clock + Sync + Send + Clone + Drop + AllocGlobal + Log,
-    R: Print + RandomSource + Net<Listener = TcpListener, Stream = TcpStream>,
+    R: Runtime + Print + RandomSource + Net<Listener = TcpListener, Stream = TcpStream>,
 {
     println!(rt; "as mcbft runs them")?;
     run_with(rt, rt, USUAL.as_slice(), Clients::Usual)?;

@@ -13,6 +13,7 @@ mod lying;
 mod outside;
 mod passed_over;
 mod recorder;
+mod runtime;
 mod sights;
 mod station;
 mod supplied;
@@ -24,6 +25,7 @@ mod worker;
 mod working;
 
 pub use building::{build_station, stations};
+pub use runtime::Runtime;
 pub use sights::Sights;
 pub use station::{Looking, Progress, Station};
 pub use terms::{Liars, Terms, Workers};

@@ -156,9 +156,7 @@ impl<P: Post> Outgoing for Outside<'_, '_, P> {
 
     fn hear_doubt<R: Wait>(&self, rt: &R, from: ReplicaId, voters: ReplicaSet) {
         let passed_over = self.station.passed_over();
-        if self.leads() || passed_over.spares(rt, from, &voters) {
-            passed_over.hear(rt, from, &voters);
-        }
+        passed_over.hear(rt, self.leads(), from, &voters);
         self.station.left_out().hear(from);
     }
 

@@ -49,7 +49,7 @@ impl PassedOver {
     }
 
     /// The replica's clock looks, once in `LOOK_MILLIS`, and finds it in this view. The next refused frame is to be looked at.
-    pub(crate) fn ask<R: Wait>(&self, rt: &R, view: View) {
+    pub(crate) fn look_again<R: Wait>(&self, rt: &R, view: View) {
         if self.hears_again(view) {
             self.passing.lock(rt).hear_all();
         }
@@ -72,15 +72,14 @@ impl PassedOver {
         Some(doubt)
     }
 
-    /// Another replica told whose votes in a leader's certificate weren't right for it.
-    pub(crate) fn hear<R: Wait>(&self, rt: &R, from: ReplicaId, voters: &ReplicaSet) {
-        self.passing.lock(rt).hear(from, voters);
-        self.are_any.store(true, SeqCst);
-    }
-
-    /// Whether a quorum is left without all these.
-    pub(crate) fn spares<R: Wait>(&self, rt: &R, from: ReplicaId, voters: &ReplicaSet) -> bool {
-        self.passing.lock(rt).spares(from, voters)
+    /// Another replica told whose votes in a leader's certificate weren't right for it. That is noted where this one leads, or
+    /// where a quorum is left without all of them.
+    pub(crate) fn hear<R: Wait>(&self, rt: &R, leads: bool, from: ReplicaId, voters: &ReplicaSet) {
+        let mut passing = self.passing.lock(rt);
+        if leads || passing.spares(from, voters) {
+            passing.hear(from, voters);
+            self.are_any.store(true, SeqCst);
+        }
     }
 
     /// Whether a replica is.

@@ -113,7 +113,7 @@ impl<'s, 'a> Watched for Timed<'s, 'a> {
 
     fn hand_in<R: Wait>(&self, rt: &R, due: Due) {
         let view = self.station.trouble().view();
-        self.station.passed_over().ask(rt, view);
+        self.station.passed_over().look_again(rt, view);
         self.station.left_out().look();
         if due.beat {
             let _lost = self.station.inbox().beat(rt);
