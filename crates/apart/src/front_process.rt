@@ -5,7 +5,6 @@ use crate::fronts::{Front, Fronts};
 use crate::holding::hold;
 use crate::numbering::{Clerk, Numbering};
 use crate::peers::{endpoint, new_life, replicas};
-use crate::process_runtime::ProcessRuntime;
 use crate::refusal::Refusal;
 use crate::replies::Replies;
 use crate::wire_requests::WireRequests;
@@ -16,8 +15,10 @@ use fabric::{ClientEnd, ClientLinks};
 use ids::{ClientId, Fault, ReplicaId, Seq};
 use key_file::HeldKeys;
 use state_marks::{Directory, Numbers};
+use station::Runtime;
 use std::alloc::Global;
-use std::net::{Net, TcpListener};
+use std::fs::File;
+use std::net::{Net, TcpListener, TcpStream};
 use std::random::RandomSource;
 use std::rt::Files;
 use std::sync::atomic::AtomicBool;
@@ -126,7 +127,8 @@ fn serve<R>(
     most: u64,
 ) -> Result<u64, Fault>
 where
-    R: ProcessRuntime,
+    R: Runtime + RandomSource + Files,
+    R: Net<Listener = TcpListener, Stream = TcpStream>,
 {
     let is_done = AtomicBool::new(false);
     let (is_done, wires) = (&is_done, desk.requests.wires());
@@ -160,7 +162,8 @@ pub fn run_front<R>(
     listener: &TcpListener,
 ) -> Result<u64, Refusal>
 where
-    R: ProcessRuntime,
+    R: Runtime + RandomSource,
+    R: Files<File = File> + Net<Listener = TcpListener, Stream = TcpStream>,
 {
     let alloc = rt.alloc();
     let _held = hold(rt, state)?;

@@ -10,7 +10,6 @@ use crate::fronts::Fronts;
 use crate::holding::hold;
 use crate::peers::{add_fronts, endpoint, new_life, replicas};
 use crate::pending::Pending;
-use crate::process_runtime::ProcessRuntime;
 use crate::refusal::Refusal;
 use crate::replica_rows::Row;
 use crate::telling::Teller;
@@ -23,9 +22,10 @@ use key_file::HeldKeys;
 use log::Log;
 use marks::{Eye, Marks, Watcher};
 use state_marks::{Directory, Numbers};
-use station::{Sights, Station, Terms, WorkerStart, build_station, run_worker, watch};
+use station::{Runtime, Sights, Station, Terms, WorkerStart, build_station, run_worker, watch};
 use std::alloc::Global;
-use std::net::{Net, TcpListener};
+use std::fs::File;
+use std::net::{Net, TcpListener, TcpStream};
 use std::random::RandomSource;
 use std::rt::Files;
 use std::sync::atomic::AtomicBool;
@@ -171,7 +171,8 @@ fn run_all<R>(
     attendant: &Attendant<'_>,
 ) -> Option<Fault>
 where
-    R: ProcessRuntime,
+    R: Runtime + RandomSource + Files,
+    R: Net<Listener = TcpListener, Stream = TcpStream>,
 {
     let around = place.around;
     let post = around.post(rt.alloc());
@@ -281,7 +282,8 @@ fn run_station<R>(
     terms: &Terms,
 ) -> Result<Option<Fault>, Refusal>
 where
-    R: ProcessRuntime,
+    R: Runtime + RandomSource + Files,
+    R: Net<Listener = TcpListener, Stream = TcpStream>,
 {
     let (alloc, replicas) = (rt.alloc(), keyring.config().n());
     let link = Arc::try_clone(&around.inbox)?;
@@ -316,7 +318,8 @@ pub fn run_replica<R>(
     listener: &TcpListener,
 ) -> Result<Option<Fault>, Refusal>
 where
-    R: ProcessRuntime,
+    R: Runtime + RandomSource,
+    R: Files<File = File> + Net<Listener = TcpListener, Stream = TcpStream>,
 {
     let (alloc, number) = (rt.alloc(), terms.number);
     let _held = hold(rt, state)?;

@@ -4,7 +4,10 @@ use crate::asking_clients::{after_return, at_first, without_one};
 use crate::deployed::Deployed;
 use crate::running::{run_as_replica, stop};
 use anyhow::Result;
-use apart::ProcessRuntime;
+use station::Runtime;
+use std::fs::File;
+use std::net::{Net, TcpListener, TcpStream};
+use std::random::RandomSource;
 use std::rt::Files;
 use std::sync::Wait;
 use std::time::Clock;
@@ -35,7 +38,8 @@ where
 /// Plays the scene.
 pub(crate) fn play<R>(rt: &R, deployed: &Deployed) -> Result<()>
 where
-    R: ProcessRuntime + Print,
+    R: Runtime + RandomSource + Print,
+    R: Files<File = File> + Net<Listener = TcpListener, Stream = TcpStream>,
 {
     at_first(rt, deployed)?;
     tell(rt, deployed, "front 0", 4)?;

@@ -3,15 +3,16 @@
 use crate::deployed::{Deployed, directory};
 use crate::key_texts::key_text;
 use anyhow::{Context, Result};
-use apart::{
-    FrontTerms, ProcessRuntime, Refusal, ReplicaTerms, ask, holder_of_front, run_front, run_replica,
-};
+use apart::{FrontTerms, Refusal, ReplicaTerms, ask, holder_of_front, run_front, run_replica};
 use deployment::Deployment;
 use ids::{Fault, ReplicaId};
 use key_file::{HeldKeys, Holder};
 use state_marks::Ask;
-use station::{Terms, Workers};
+use station::{Runtime, Terms, Workers};
+use std::fs::File;
 use std::hash::RandomState;
+use std::net::{Net, TcpListener, TcpStream};
+use std::random::RandomSource;
 use std::rt::Files;
 use std::time::Clock;
 
@@ -51,7 +52,8 @@ fn replica_ended<R>(
     number: u8,
 ) -> Result<Result<Option<Fault>, Refusal>>
 where
-    R: ProcessRuntime,
+    R: Runtime + RandomSource,
+    R: Files<File = File> + Net<Listener = TcpListener, Stream = TcpStream>,
 {
     let replica = ReplicaId(number);
     let deployment = Deployment::read(rt.alloc(), deployed.text.as_bytes())?;
@@ -71,7 +73,8 @@ where
 /// How a replica ended.
 pub(crate) fn run_as_replica<R>(rt: &R, deployed: &Deployed, number: u8) -> &'static str
 where
-    R: ProcessRuntime,
+    R: Runtime + RandomSource,
+    R: Files<File = File> + Net<Listener = TcpListener, Stream = TcpStream>,
 {
     match replica_ended(rt, deployed, number) {
         Ok(Ok(None)) => "stopped as it was asked",
@@ -89,7 +92,8 @@ fn front_ended<R>(
     most: u64,
 ) -> Result<Result<u64, Refusal>>
 where
-    R: ProcessRuntime,
+    R: Runtime + RandomSource,
+    R: Files<File = File> + Net<Listener = TcpListener, Stream = TcpStream>,
 {
     let deployment = Deployment::read(rt.alloc(), deployed.text.as_bytes())?;
     let holder = holder_of_front(rt.alloc(), &deployment, number)?;
@@ -110,7 +114,8 @@ where
 /// How a front ended.
 fn run_as_front<R>(rt: &R, deployed: &Deployed, number: u8, most: u64) -> &'static str
 where
-    R: ProcessRuntime,
+    R: Runtime + RandomSource,
+    R: Files<File = File> + Net<Listener = TcpListener, Stream = TcpStream>,
 {
     match front_ended(rt, deployed, number, most) {
         Ok(Ok(served)) if served == most => "served all",
@@ -128,7 +133,8 @@ pub(crate) fn stop<R: Files + Clock + AllocGlobal>(rt: &R, number: u8) -> Result
 /// Runs a replica, and leaves how it ended.
 pub(crate) fn replica_thread<R>(rt: &R, deployed: &Deployed, number: u8)
 where
-    R: ProcessRuntime,
+    R: Runtime + RandomSource,
+    R: Files<File = File> + Net<Listener = TcpListener, Stream = TcpStream>,
 {
     let ending = run_as_replica(rt, deployed, number);
     deployed.endings.leave(rt, usize::from(number), ending);
@@ -137,7 +143,8 @@ where
 /// Runs a front, and leaves how it ended.
 pub(crate) fn front_thread<R>(rt: &R, deployed: &Deployed, number: u8, most: u64)
 where
-    R: ProcessRuntime,
+    R: Runtime + RandomSource,
+    R: Files<File = File> + Net<Listener = TcpListener, Stream = TcpStream>,
 {
     let ending = run_as_front(rt, deployed, number, most);
     deployed
@@ -148,7 +155,8 @@ where
 /// Runs the first front once more, when it has ended.
 pub(crate) fn front_thread_again<R>(rt: &R, deployed: &Deployed)
 where
-    R: ProcessRuntime,
+    R: Runtime + RandomSource,
+    R: Files<File = File> + Net<Listener = TcpListener, Stream = TcpStream>,
 {
     let _ended = deployed.endings.wait_for(rt, 4);
     let ending = run_as_front(rt, deployed, 0, 1);

@@ -1,13 +1,16 @@
 //! What the program does as one party of a deployment: a replica, or a front.
 
 use crate::party_faults::PartyFault;
-use apart::{FrontTerms, ProcessRuntime, ReplicaTerms, holder_of_front, run_front, run_replica};
+use apart::{FrontTerms, ReplicaTerms, holder_of_front, run_front, run_replica};
 use command_line::{Files as Paths, FrontOptions, ReplicaOptions};
 use deployment::Deployment;
 use ids::{Fault, ReplicaId};
 use key_file::{HeldKeys, Holder};
+use server::Runtime;
+use std::fs::File;
 use std::io::ErrorKind;
 use std::net::{Net, TcpListener, TcpStream, ToSocketAddrs};
+use std::random::RandomSource;
 use std::rt::Files;
 use std::{fs, str};
 
@@ -72,7 +75,8 @@ pub(crate) fn run_as_replica<R>(
     options: &ReplicaOptions<'_>,
 ) -> Result<Option<Fault>, PartyFault>
 where
-    R: ProcessRuntime + Print,
+    R: Runtime + Print + RandomSource,
+    R: Files<File = File> + Net<Listener = TcpListener, Stream = TcpStream>,
 {
     let (paths, number) = (&options.files, ReplicaId(options.number));
     let text = read_file(rt, paths.deployment, PartyFault::CannotReadDeployment)?;
@@ -89,7 +93,8 @@ where
 /// Runs a front as the options ask, to its end. How many connections it served.
 pub(crate) fn run_as_front<R>(rt: &R, options: &FrontOptions<'_>) -> Result<u64, PartyFault>
 where
-    R: ProcessRuntime + Print,
+    R: Runtime + Print + RandomSource,
+    R: Files<File = File> + Net<Listener = TcpListener, Stream = TcpStream>,
 {
     let (alloc, paths) = (rt.alloc(), &options.files);
     let text = read_file(rt, paths.deployment, PartyFault::CannotReadDeployment)?;
