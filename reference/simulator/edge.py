@@ -199,10 +199,12 @@ class Edge:
             self.questions.need(frame.digest, frame.vote.voter)
 
     def _on_announcement(self, item, frame):
-        """Its view counts, whatever it names. What it names is asked for by the leader of the view alone."""
+        """Its view counts, whatever it names. What it names is asked for by the leader of the view alone. Who repeats
+        our view doesn't know that a quorum is there, and hears ours: else its clock never begins where that was lost.
+        """
         if not self._is_its_own(item):
             return
-        if frame.view < self.view:
+        if frame.view < self.view or frame.view == self.view and self.begun is not None:
             self._tell(frame.sender)
         if frame.view > self.view:
             self.meet_trouble()
@@ -215,7 +217,7 @@ class Edge:
                 self.questions.need(frame.cert.digest, frame.sender, frame.sender)
 
     def _tell(self, sender):
-        """One that is behind hears our view."""
+        """One that is behind, or waits for a quorum in our view, hears that we are in it."""
         if self.announcement is not None and self.now - self.answered.get(sender, -99) >= self.times.again:
             self.answered[sender] = self.now
             self.town.send(self.me, self.announcement, sender)
