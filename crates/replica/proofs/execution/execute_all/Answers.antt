@@ -1,8 +1,7 @@
 use Rattle.std.proofs.Common.{refl, ◌≡◌, ◌+◌, ◌++◌, ℕ, suc, [], arith, sym, ap, subst, ◌∙◌, option_map}
 use Rattle.executor.proofs.Texts.{on_err}
 use Rattle.definitions.specs.Frames.{Core}
-use Rattle.mempool.specs.Pool.{left_after}
-use Rattle.replica.specs.Execution.{commands_at, history_above, Work, work, stretch, after_blocks, told}
+use Rattle.replica.specs.Execution.{commands_at, Work, work, stretch, after_blocks, told}
 use Rattle.executor.specs.State.{Execution, new_answers}
 use Rattle.replica.proofs.Executing.{all-heights, IsUpTo, commands-some, commands-none, begins-up, goes-up}
 use Rattle.replica.proofs.Executing.{passes-up, told-up, cuts-up}

@@ -1,8 +1,7 @@
-use Rattle.std.proofs.Common.{◌≡◌, ◌-◌, ℕ, List, [], length, ap, sym, ◌∙◌, subst}
+use Rattle.std.proofs.Common.{◌≡◌, ◌-◌, ℕ, [], length, ap, sym, ◌∙◌, subst}
 use Rattle.definitions.specs.Chronicles.{executed}
 use Rattle.replica_rules.specs.declared.block_ref.BlockRef.{BlockRef}
 use Rattle.replica.specs.Kept.{Variables, StateParts, waiting, tree_of}
-use Rattle.definitions.specs.Frames.{Command}
 use Rattle.mempool.specs.Pool.{left_after}
 use Rattle.admission.specs.Inputs.{input_of}
 use Rattle.replica.specs.Execution.{history_above, Work, work, stretch, IsCutShort}
