@@ -1,16 +1,16 @@
 -- The laws of the rule.
 use Rattle.std.proofs.Common.{ℕ, ◌+◌, ◌*◌, ◌/◌, ◌-◌, ◌^◌, ◌≤◌, ◌==◌, Bool, true, false, not, cond, min}
 use Rattle.std.proofs.Common.{[], ◌∷◌, arith, inl, inr, le_trans, nat_le, ◌≡◌, refl, sym, subst, ◌∙◌}
-use Rattle.std.proofs.lemmas.Bool.{and_parts, and_from, or_cases, or_left, cond_both, cond-true, cond-false, leb-true, leb-false}
+use Rattle.std.proofs.lemmas.Bool.{and_parts, and_from, or_cases, or_left, or_right, cond_both, cond-true, cond-false, leb-true, leb-false}
 use Rattle.std.proofs.lemmas.Bool.{le-leb, eq-eqb, not_from_true}
-use Rattle.std.proofs.Math.Nat.{div-le_self, min-le_left, min-le_right, min-eq_left, min-eq_right, le-min}
+use Rattle.std.proofs.Math.Nat.{div-le_self, min-le_left, min-le_right, min-eq_left, min-eq_right, le-min, mul-le-mul_left}
 use Rattle.ids.specs.Sizes.{Sizes}
 use Rattle.clock.specs.declared.watch.Pulse.{Pulse}
 use Rattle.clock.specs.declared.watch.Watch.{Watch}
-use Rattle.tuning.specs.declared.clocks.TheConstants.{SPENT_PART}
-use Rattle.clock.specs.Watching.{borne_by, counted, is_calm, is_due, is_overdue, is_spent, lags, limit_after, limit_of, moved}
-use Rattle.clock.specs.Watching.{slack_after, slow_after, vain_after}
-use Rattle.clock.specs.Laws.{Looks, watched, lagged, lagged_on, IsEarned, IsGiven, IsOwed, IsPatient, IsSlack}
+use Rattle.tuning.specs.declared.clocks.TheConstants.{BEGINNING_SLACK, SPENT_PART}
+use Rattle.clock.specs.Watching.{borne_by, counted, is_calm, is_due, is_overdue, is_spent, is_stuck, lags, limit_after}
+use Rattle.clock.specs.Watching.{limit_of, limit_where, moved, silence_after, slack_after, slow_after, stuck_after, vain_after}
+use Rattle.clock.specs.Laws.{Looks, watched, lagged, lagged_on, silent, EndsSilences, IsEarned, IsGiven, IsOwed, IsPatient, IsSlack}
 
 -- three times the time is as much as the count, at most
 slow-most : (w : Watch) (now : ℕ) (p : Pulse) (k : ℕ) → w.slow ≤ 3 * k
@@ -23,17 +23,17 @@ slow-most w now p k h =
     let b = min-le_left ((now - w.looked) * 3) (2 ^ 64 - 1) in omega (arith, a, b, h)))
     (λ t. omega (arith, h)))
 
--- one look more, by what is found: a new view, a timeout that is due, and lagging
-slow-step : (new due lag : Bool) (slow passed k most : ℕ) → slow ≤ 3 * k
-    → cond due 0 (cond new 0 (cond lag (min (slow + min (passed * 3) most) most) (slow - passed)))
-    ≤ 3 * cond new 0 (cond due 0 (cond lag (k + passed) k))
-slow-step true true lag slow passed k most h = omega arith
-slow-step true false lag slow passed k most h = omega arith
-slow-step false true lag slow passed k most h = omega arith
-slow-step false false true slow passed k most h =
+-- one look more, by what is found: a new view, a timeout that is due, and lagging; and what is left where it doesn't lag
+slow-step : (new due lag : Bool) (slow passed k left kept most : ℕ) → slow ≤ 3 * k → left ≤ 3 * kept
+    → cond due 0 (cond new 0 (cond lag (min (slow + min (passed * 3) most) most) left))
+    ≤ 3 * cond new 0 (cond due 0 (cond lag (k + passed) kept))
+slow-step true true lag slow passed k left kept most h l = omega arith
+slow-step true false lag slow passed k left kept most h l = omega arith
+slow-step false true lag slow passed k left kept most h l = omega arith
+slow-step false false true slow passed k left kept most h l =
     let a = min-le_left (slow + min (passed * 3) most) most in
     let b = min-le_left (passed * 3) most in omega (arith, a, b, h)
-slow-step false false false slow passed k most h = omega (arith, h)
+slow-step false false false slow passed k left kept most h l = l
 
 -- what is remembered counts no more than three times the time that it lagged
 slow-lagged : (config : Sizes) (times : ℕ) (looks : Looks) → (watched config times looks).slow ≤ 3 * lagged config times looks
@@ -42,18 +42,41 @@ slow-lagged config times [] = omega arith
 slow-lagged config times (x ∷ earlier) =
     let w = watched config times earlier in
     slow-step (not (x.1.view == w.view)) (is_due w x.0 x.1) (lags w x.0 x.1) w.slow (x.0 - w.looked)
-    (lagged config times earlier) (2 ^ 64 - 1) (slow-lagged config times earlier)
+    (lagged config times earlier) (w.slow - (x.0 - w.looked)) (lagged config times earlier) (2 ^ 64 - 1)
+    (slow-lagged config times earlier) (omega (arith, slow-lagged config times earlier))
+
+-- nor what is remembered of its silence
+stuck-silent : (config : Sizes) (times : ℕ) (looks : Looks) → (watched config times looks).stuck ≤ 3 * silent config times looks
+unfolding watched silent
+stuck-silent config times [] = omega arith
+stuck-silent config times (x ∷ earlier) =
+    let w = watched config times earlier in
+    slow-step false (is_due w x.0 x.1) (is_stuck w x.0 x.1) w.stuck (x.0 - w.looked)
+    (silent config times earlier) 0 0 (2 ^ 64 - 1) (stuck-silent config times earlier) (omega arith)
+
+-- with the look at this moment
+stuck-most : (w : Watch) (now : ℕ) (p : Pulse) (k : ℕ) → w.stuck ≤ 3 * k → stuck_after w now p ≤ 3 * (k + (now - w.looked))
+stuck-most w now p k h =
+    cond_both (is_stuck w now p) _ 0 (λ (n : ℕ). n ≤ 3 * (k + (now - w.looked)))
+    (λ t. (let a = min-le_left (w.stuck + min ((now - w.looked) * 3) (2 ^ 64 - 1)) (2 ^ 64 - 1) in
+    let b = min-le_left ((now - w.looked) * 3) (2 ^ 64 - 1) in omega (arith, a, b, h)))
+    (λ f. omega arith)
 
 pub is-earned : IsEarned
 is-earned config times earlier now p due =
     let w = watched config times earlier in
     let k = slow-most w now p (lagged config times earlier) (slow-lagged config times earlier) in
+    let s = stuck-most w now p (silent config times earlier) (stuck-silent config times earlier) in
     elim (or_cases _ _ due) [
-      | inr c ↦ inr c
-      | inl over ↦ (
-          let parts = and_parts (lags w now p) (nat_le (limit_after w now p) (slow_after w now p)) over in
-          let l = leb-true (limit_after w now p) (slow_after w now p) parts.1 in
-          inl (le_trans l k))
+      | inr c ↦ inr (inr c)
+      | inl ends ↦ (elim (or_cases _ _ ends) [
+        | inl over ↦ (
+            let parts = and_parts (lags w now p) (nat_le (limit_after w now p) (slow_after w now p)) over in
+            inl (le_trans (leb-true (limit_after w now p) (slow_after w now p) parts.1) k))
+        | inr quiet ↦ (
+            let parts = and_parts (is_stuck w now p) (nat_le (silence_after w now p) (stuck_after w now p)) quiet in
+            inr (inl (le_trans (leb-true (silence_after w now p) (stuck_after w now p) parts.1) s)))
+      ])
     ]
 
 -- what a sum comes to, where it stops at the greatest number, is at least the sum so far and what is added
@@ -81,17 +104,17 @@ most-added a b s most h =
         let k = min-eq_right l in omega (arith, k, stops)
 
 -- one look more, by what is found
-on-step : (new due lag : Bool) (slow passed k most : ℕ) → min (3 * k) most ≤ slow
+on-step : (new due lag : Bool) (slow passed k left most : ℕ) → min (3 * k) most ≤ slow
     → min (3 * cond new 0 (cond due 0 (cond lag (k + passed) 0))) most
-    ≤ cond due 0 (cond new 0 (cond lag (min (slow + min (passed * 3) most) most) (slow - passed)))
-on-step true true lag slow passed k most h = omega arith
-on-step true false lag slow passed k most h = omega arith
-on-step false true lag slow passed k most h = omega arith
-on-step false false true slow passed k most h =
+    ≤ cond due 0 (cond new 0 (cond lag (min (slow + min (passed * 3) most) most) left))
+on-step true true lag slow passed k left most h = omega arith
+on-step true false lag slow passed k left most h = omega arith
+on-step false true lag slow passed k left most h = omega arith
+on-step false false true slow passed k left most h =
     let same : 3 * (k + passed) ≡ 3 * k + passed * 3 = omega arith in
     subst (λ (n : ℕ). min n most ≤ min (slow + min (passed * 3) most) most) (sym same)
     (most-added (3 * k) (passed * 3) slow most h)
-on-step false false false slow passed k most h = omega arith
+on-step false false false slow passed k left most h = omega arith
 
 -- what is remembered counts three times the time in which it lagged at each look
 slow-on : (config : Sizes) (times : ℕ) (looks : Looks)
@@ -101,15 +124,25 @@ slow-on config times [] = omega arith
 slow-on config times (x ∷ earlier) =
     let w = watched config times earlier in
     on-step (not (x.1.view == w.view)) (is_due w x.0 x.1) (lags w x.0 x.1) w.slow (x.0 - w.looked)
-    (lagged_on config times earlier) (2 ^ 64 - 1) (slow-on config times earlier)
+    (lagged_on config times earlier) (w.slow - (x.0 - w.looked)) (2 ^ 64 - 1) (slow-on config times earlier)
 
--- a limit is a number of the machine
-limit-most : (w : Watch) (now : ℕ) (p : Pulse) → limit_after w now p ≤ 2 ^ 64 - 1
-limit-most w now p =
-    let limit = min (limit_of w.limit (counted w (vain_after w now p) p) * borne_by w (slack_after w now p)) (2 ^ 64 - 1) in
-    let most : limit ≤ 2 ^ 64 - 1 = min-le_right _ (2 ^ 64 - 1) in
-    cond_both (is_spent p.view p.height p.voted) (limit / SPENT_PART) limit (λ (n : ℕ). n ≤ 2 ^ 64 - 1)
-    (λ t. le_trans (div-le_self limit SPENT_PART) most) (λ f. most)
+-- and of its silence
+stuck-on : (config : Sizes) (times : ℕ) (looks : Looks)
+    → min (3 * silent config times looks) (2 ^ 64 - 1) ≤ (watched config times looks).stuck
+unfolding watched silent
+stuck-on config times [] = omega arith
+stuck-on config times (x ∷ earlier) =
+    let w = watched config times earlier in
+    on-step false (is_due w x.0 x.1) (is_stuck w x.0 x.1) w.stuck (x.0 - w.looked)
+    (silent config times earlier) 0 (2 ^ 64 - 1) (stuck-on config times earlier)
+
+-- a limit is no more than what it is a part of, and a number of the machine
+limit-most : (w : Watch) (vain times : ℕ) (p : Pulse)
+    → limit_where w vain times p ≤ min (limit_of w.limit (counted w vain p) * times) (2 ^ 64 - 1)
+limit-most w vain times p =
+    let limit = min (limit_of w.limit (counted w vain p) * times) (2 ^ 64 - 1) in
+    cond_both (is_spent p.view p.height p.voted) (limit / SPENT_PART) limit (λ (n : ℕ). n ≤ limit)
+    (λ t. div-le_self limit SPENT_PART) (λ f. omega arith)
 
 pub is-given : IsGiven
 is-given config times earlier now p same l h =
@@ -119,12 +152,32 @@ is-given config times earlier now p same l h =
     let seen : slow_after w now p ≡ min (w.slow + min (passed * 3) most) most =
     cond-false _ _ _ (not_from_true _ (eq-eqb _ _ same)) ∙ cond-true _ _ _ l in
     let k = most-added (3 * lagged_on config times earlier) (passed * 3) w.slow most (slow-on config times earlier) in
-    let least = le-min {b = most} h (limit-most w now p) in
+    let machine = le_trans (limit-most w (vain_after w now p) (borne_by w (slack_after w now p)) p) (min-le_right _ most) in
+    let least = le-min {b = most} h machine in
     let sum : 3 * (lagged_on config times earlier + passed) ≡ 3 * lagged_on config times earlier + passed * 3 =
     omega arith in
-    or_left _ _ (and_from _ _ l (le-leb _ _
+    or_left _ _ (or_left _ _ (and_from _ _ l (le-leb _ _
     (subst (λ (n : ℕ). limit_after w now p ≤ n) (sym seen)
-    (le_trans (subst (λ (n : ℕ). limit_after w now p ≤ min n most) sum least) k))))
+    (le_trans (subst (λ (n : ℕ). limit_after w now p ≤ min n most) sum least) k)))))
+
+pub ends-silences : EndsSilences
+ends-silences config times earlier now p stuck h =
+    let w = watched config times earlier in
+    let most = 2 ^ 64 - 1 in
+    let passed = now - w.looked in
+    let vain = vain_after w now p in
+    let few = min (slack_after w now p) BEGINNING_SLACK in
+    let seen : stuck_after w now p ≡ min (w.stuck + min (passed * 3) most) most = cond-true _ _ _ stuck in
+    let k = most-added (3 * silent config times earlier) (passed * 3) w.stuck most (stuck-on config times earlier) in
+    let limit = limit_of w.limit (counted w vain p) in
+    let less : limit * few ≤ limit * 2 = mul-le-mul_left limit (min-le_right (slack_after w now p) 2) in
+    let part = limit-most w vain few p in
+    let within = le_trans (le_trans part (min-le_left (limit * few) most)) (le_trans less h) in
+    let least = le-min {b = most} within (le_trans part (min-le_right (limit * few) most)) in
+    let sum : 3 * (silent config times earlier + passed) ≡ 3 * silent config times earlier + passed * 3 = omega arith in
+    or_left _ _ (or_right _ _ (and_from _ _ stuck (le-leb _ _
+    (subst (λ (n : ℕ). silence_after w now p ≤ n) (sym seen)
+    (le_trans (subst (λ (n : ℕ). silence_after w now p ≤ min n most) sum least) k)))))
 
 pub is-patient : IsPatient
 unfolding watched

@@ -1,11 +1,11 @@
 -- What the rule is for.
 use Rattle.std.specs.Prelude.{◌≡◌, ℕ, ◌+◌, ◌*◌, ◌-◌, ◌≤◌, ◌⊎◌, ◌==◌, true, not, List, [], ◌∷◌}
 use Rattle.std.specs.Prelude.{if◌then◌else◌}
-use Rattle.tuning.specs.declared.clocks.TheConstants.{LAG_WEIGHT, LEAST_BEAT_MILLIS, MOST_SLACK}
+use Rattle.tuning.specs.declared.clocks.TheConstants.{BEGINNING_SLACK, LAG_WEIGHT, LEAST_BEAT_MILLIS, MOST_SLACK}
 use Rattle.ids.specs.Sizes.{Sizes}
 use Rattle.clock.specs.declared.watch.Pulse.{Pulse}
 use Rattle.clock.specs.declared.watch.Watch.{Watch}
-use Rattle.clock.specs.Watching.{climbs, is_due, lags, limit_after, looked, unseen}
+use Rattle.clock.specs.Watching.{climbs, counted, is_due, is_stuck, lags, limit_after, limit_of, looked, silence_after, unseen, vain_after}
 
 -- the looks at a replica of these sizes, which may take so many times as long: each at a moment, and what was seen then; the last one first
 abbrev pub Looks : Type 0
@@ -32,13 +32,24 @@ lagged config times [] = 0
 lagged config times (x ∷ earlier) =
     let before = lagged config times earlier in lagged_after (watched config times earlier) x before before
 
+-- for how many milliseconds it has lagged at each look without anything executed, and without a timeout that was due
+unfoldable pub silent : (config : Sizes) (times : ℕ) → Looks → ℕ
+silent config times [] = 0
+silent config times (x ∷ earlier) =
+    let w = watched config times earlier in
+    if is_due w x.0 x.1 then 0
+    else if is_stuck w x.0 x.1 then silent config times earlier + (x.0 - w.looked)
+    else 0
+
 -- No timeout is due before the replica has lagged for a third (one in `LAG_WEIGHT`) of the limit of its view, this
--- look included, or its view has brought more heights than it may without a decision.
+-- look included, or nothing was executed for a third of what that may last, or its view has brought more heights than it may
+-- without a decision.
 abbrev pub IsEarned : Type 0
 IsEarned = (config : Sizes) (times : ℕ) (earlier : Looks) (now : ℕ) (p : Pulse)
     → is_due (watched config times earlier) now p ≡ true
     → (limit_after (watched config times earlier) now p ≤ LAG_WEIGHT * (lagged config times earlier + (now - (watched config times earlier).looked)))
-    ⊎ (climbs (watched config times earlier) p ≡ true)
+    ⊎ ((silence_after (watched config times earlier) now p ≤ LAG_WEIGHT * (silent config times earlier + (now - (watched config times earlier).looked)))
+    ⊎ (climbs (watched config times earlier) p ≡ true))
 
 -- the same, as far back as it lagged at each look
 unfoldable pub lagged_on : (config : Sizes) (times : ℕ) → Looks → ℕ
@@ -51,6 +62,14 @@ abbrev pub IsGiven : Type 0
 IsGiven = (config : Sizes) (times : ℕ) (earlier : Looks) (now : ℕ) (p : Pulse)
     → (let w = watched config times earlier in p.view ≡ w.view → lags w now p ≡ true
     → limit_after w now p ≤ LAG_WEIGHT * (lagged_on config times earlier + (now - w.looked))
+    → is_due w now p ≡ true)
+
+-- A timeout is due once the replica has lagged at each look without anything executed for a third of what a view may lag at its
+-- beginning, this look included: however slow the view may be by now.
+abbrev pub EndsSilences : Type 0
+EndsSilences = (config : Sizes) (times : ℕ) (earlier : Looks) (now : ℕ) (p : Pulse)
+    → (let w = watched config times earlier in is_stuck w now p ≡ true
+    → limit_of w.limit (counted w (vain_after w now p) p) * BEGINNING_SLACK ≤ LAG_WEIGHT * (silent config times earlier + (now - w.looked))
     → is_due w now p ≡ true)
 
 -- A proposal may always wait for the least pause before there is a beat on top of it.

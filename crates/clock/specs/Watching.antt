@@ -116,14 +116,18 @@ most_undecided view = min (min (view + 1) (2 ^ 64 - 1) * MOST_UNDECIDED) (2 ^ 64
 abbrev pub is_spent : (view height voted : ℕ) → Bool
 is_spent view height voted = nat_le (most_undecided view / 2) (voted - height)
 
--- that of its view, where so many passed in vain: where its leader may climb no further, a part
-abbrev pub limit_where : Watch → (vain slack : ℕ) → Pulse → ℕ
-limit_where w vain slack p =
-    let limit = min (limit_of w.limit (counted w vain p) * borne_by w slack) (2 ^ 64 - 1) in
+-- that of its view, where so many passed in vain, so many times: where its leader may climb no further, a part
+abbrev pub limit_where : Watch → (vain times : ℕ) → Pulse → ℕ
+limit_where w vain times p =
+    let limit = min (limit_of w.limit (counted w vain p) * times) (2 ^ 64 - 1) in
     if is_spent p.view p.height p.voted then limit / SPENT_PART else limit
 
 abbrev pub limit_after : Watch → ℕ → Pulse → ℕ
-limit_after w now p = limit_where w (vain_after w now p) (slack_after w now p) p
+limit_after w now p = limit_where w (vain_after w now p) (borne_by w (slack_after w now p)) p
+
+-- how much it may lag while nothing is executed: no more than before its first command
+abbrev pub silence_after : Watch → ℕ → Pulse → ℕ
+silence_after w now p = limit_where w (vain_after w now p) (min (slack_after w now p) BEGINNING_SLACK) p
 
 -- it lags, and has been slow for so long
 abbrev pub is_over : Watch → (now limit slow : ℕ) → Pulse → Bool
@@ -137,9 +141,23 @@ settled w p = not ((p.view == w.view) && (p.height == w.height))
 abbrev pub climbs : Watch → Pulse → Bool
 climbs w p = not (settled w p) && nat_lt (most_undecided p.view) (p.voted - w.from)
 
+-- its requests lag, and nothing was executed since it was looked at last
+abbrev pub is_stuck : Watch → ℕ → Pulse → Bool
+is_stuck w now p = not (moved w p) && lags w now p
+
+-- how much it has lagged since something was executed
+abbrev pub stuck_after : Watch → ℕ → Pulse → ℕ
+stuck_after w now p = if is_stuck w now p then min (w.stuck + min ((now - w.looked) * LAG_WEIGHT) (2 ^ 64 - 1)) (2 ^ 64 - 1) else 0
+
+-- it has lagged for so long while nothing was executed
+abbrev pub is_silent : Watch → (now limit stuck : ℕ) → Pulse → Bool
+is_silent w now limit stuck p = is_stuck w now p && nat_le limit stuck
+
 -- its view is over with what is seen at this moment
 abbrev pub is_due : Watch → ℕ → Pulse → Bool
-is_due w now p = is_over w now (limit_after w now p) (slow_after w now p) p || climbs w p
+is_due w now p =
+    (is_over w now (limit_after w now p) (slow_after w now p) p || is_silent w now (silence_after w now p) (stuck_after w now p) p)
+    || climbs w p
 
 -- nothing that it proposed waits for votes, or it has just got on
 abbrev pub rests : Watch → Pulse → Bool
@@ -149,15 +167,7 @@ rests w p = moved w p || p.wants_beat_now || not p.wants_beat
 abbrev pub is_overdue : Watch → ℕ → Pulse → Bool
 is_overdue w now p = not (rests w p) && nat_le w.pause (now - w.asked)
 
--- its requests lag, and nothing was executed since it was looked at last
-abbrev pub is_stuck : Watch → ℕ → Pulse → Bool
-is_stuck w now p = not (moved w p) && lags w now p
-
--- how much the time since it got stuck counts, by the weight of lagging
-abbrev pub stuck_for : Watch → ℕ → ℕ
-stuck_for w now = min ((now - w.stuck) * LAG_WEIGHT) (2 ^ 64 - 1)
-
--- how much a leader may be stuck before it begins anew, where its view may be slow for so much: a part of that, and at
+-- how much a leader may be stuck before it begins anew, where its view may be so for so much: a part of that, and at
 -- least half of a command's time
 abbrev pub lead_after : (patience limit : ℕ) → ℕ
 lead_after patience limit = max (limit / LEAD_PART) (min (patience * LAG_WEIGHT) (2 ^ 64 - 1) / 2)
@@ -170,13 +180,13 @@ next_lead (Some Certified) stuck least = if nat_le (min (least * 2) (2 ^ 64 - 1)
 next_lead (Some Lock) stuck least = None
 
 -- it does so while it is stuck, and what it proposed waits for votes
-abbrev pub lead_where : Watch → (now limit : ℕ) → Pulse → (is_stuck : Bool) → Option LeadFrom
-lead_where w now limit p is_stuck =
-    if (p.wants_beat && not p.wants_beat_now) && is_stuck
-    then next_lead w.led (stuck_for w now) (lead_after w.patience limit) else None
+abbrev pub lead_where : Watch → (now limit stuck : ℕ) → Pulse → Option LeadFrom
+lead_where w now limit stuck p =
+    if (p.wants_beat && not p.wants_beat_now) && is_stuck w now p
+    then next_lead w.led stuck (lead_after w.patience limit) else None
 
 abbrev pub lead_of : Watch → ℕ → Pulse → Option LeadFrom
-lead_of w now p = lead_where w now (limit_after w now p) p (is_stuck w now p)
+lead_of w now p = lead_where w now (silence_after w now p) (stuck_after w now p) p
 
 -- what is due
 abbrev pub due_of : Watch → ℕ → Pulse → Due
@@ -192,7 +202,7 @@ abbrev pub pause_after : ℕ → Bool → Bool → ℕ
 pause_after pause got_on passed =
     if got_on then max (pause / 2) LEAST_BEAT_MILLIS else if passed then min (pause * 2) (2 ^ 64 - 1) else pause
 
--- what was seen so far, with this. How slow the view was, and what it brought, begins anew where a timeout is due
+-- what was seen so far, with this. How slow the view was, how silent, and what it brought, begins anew where a timeout is due
 abbrev pub looked : Watch → ℕ → Pulse → Watch
 looked w now p = record {
   view = p.view;
@@ -207,7 +217,7 @@ looked w now p = record {
   height = p.height;
   from = if settled w p || is_due w now p then p.voted else w.from;
   began = began_after w p;
-  stuck = if is_stuck w now p then w.stuck else now;
+  stuck = if is_due w now p then 0 else stuck_after w now p;
   led = if is_stuck w now p then option_or (lead_of w now p) w.led else None;
   vain = vain_after w now p;
   slack = slack_after w now p;

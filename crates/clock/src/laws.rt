@@ -1,10 +1,10 @@
 //! What the rules are for. Each law stands as the contract of a function with an empty body.
 
-ghost use Rattle.clock.specs.Laws.{IsEarned, IsGiven, IsOwed, IsPatient};
+ghost use Rattle.clock.specs.Laws.{EndsSilences, IsEarned, IsGiven, IsOwed, IsPatient};
 ghost use Rattle.clock.specs.Pruning.{HelpsSlower, KeepsWindow, KeepsWithin};
 
-/// No timeout is due before the replica has lagged in its view for a third of the view's limit, or the view has brought
-/// more heights than it may without a decision.
+/// No timeout is due before the replica has lagged in its view for a third of the view's limit, or was silent for a third of what
+/// that may last, or the view has brought more heights than it may without a decision.
 pub fn timeouts_are_earned()
     ensures { IsEarned }
 {}
@@ -12,6 +12,12 @@ pub fn timeouts_are_earned()
 /// A timeout is due once the replica has lagged so long at each look.
 pub fn timeouts_are_given()
     ensures { IsGiven }
+{}
+
+/// A timeout is due once the replica was silent for a third of what a view may lag at its beginning, at each look: however slow it
+/// may be by now.
+pub fn silences_end()
+    ensures { EndsSilences }
 {}
 
 /// A proposal may always wait for the least pause before there is a beat on top of it.

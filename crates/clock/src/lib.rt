@@ -13,8 +13,8 @@ mod watch;
 pub use forgetting::{Keep, lacks_next, prune_at};
 pub use keeping::{Watched, keep_time};
 pub use laws::{
-    commands_are_owed, proposals_may_wait, slower_ones_are_helped, the_window_is_kept,
-    timeouts_are_earned, timeouts_are_given, what_is_kept_is_within,
+    commands_are_owed, proposals_may_wait, silences_end, slower_ones_are_helped,
+    the_window_is_kept, timeouts_are_earned, timeouts_are_given, what_is_kept_is_within,
 };
 pub use trouble::Trouble;
 pub use watch::{Due, LeadFrom, Pulse, Watch};

@@ -1,9 +1,9 @@
 //! What is due to one replica.
 
 ghost use Rattle.std.specs.Prelude.{◌≡◌, ◌-◌, if◌then◌else◌};
-ghost use Rattle.clock.specs.Watching.{began_after, borne, borne_by, calm_after, climbs, counted, due_of, is_calm, is_over, is_overdue, is_spent, lags, lead_after, lead_where};
-ghost use Rattle.clock.specs.Watching.{limit_of, limit_where, looked, most_undecided, moved, next_lead, settled, stuck_for};
-ghost use Rattle.clock.specs.Watching.{patience_of, pause_after, rests, served_after, slack_after, slow_after, unseen, vain_after};
+ghost use Rattle.clock.specs.Watching.{began_after, borne, borne_by, calm_after, climbs, counted, due_of, is_calm, is_due, is_over, is_overdue, is_silent, is_spent};
+ghost use Rattle.clock.specs.Watching.{is_stuck, lags, lead_after, lead_of, lead_where, limit_after, limit_of, limit_where, looked, most_undecided, moved, next_lead};
+ghost use Rattle.clock.specs.Watching.{patience_of, pause_after, rests, served_after, settled, silence_after, slack_after, slow_after, stuck_after, unseen, vain_after};
 
 use ids::{Config, Fault, Height, View};
 use tuning::{
@@ -49,7 +49,7 @@ pub enum LeadFrom {
 pub struct Due {
     /// Leave to make a proposal.
     pub beat: bool,
-    /// A timeout of this view: it was slow for too long, or brought too much that was never decided.
+    /// A timeout of this view: it was slow or silent for too long, or brought too much that was never decided.
     pub timeout: Option<View>,
     /// Leave to begin anew: what it proposes finds no certificate.
     pub lead: Option<LeadFrom>,
@@ -79,7 +79,8 @@ pub struct Watch {
     from: Height,
     /// What it had voted for when its view began.
     began: Height,
-    /// Since when its requests have lagged and nothing was executed, and the last leave to begin anew since then.
+    /// How much its requests have lagged since something was executed, by the same weight, and the last leave to begin anew since
+    /// then.
     stuck: u64,
     led: Option<LeadFrom>,
     /// How many views passed in vain, and whether something was executed in this one.
@@ -175,8 +176,8 @@ impl Watch {
     }
 
     /// Whether its view or its history changed since it was looked at last.
-    fn has_moved(&self, pulse: Pulse) -> bool
-        ensures { result ≡ moved self.now pulse }
+    fn has_moved(&self, pulse: &Pulse) -> bool
+        ensures { result ≡ moved self.now pulse.now }
     {
         !(pulse.view.0 == self.view.0 && pulse.executed == self.executed)
     }
@@ -191,8 +192,8 @@ impl Watch {
     /// Whether requests wait, and the commands that were executed since it was looked at last took too long. Where
     /// several wait, so many more have to come in the same time: else a leader could let each wait, and bring them
     /// together.
-    fn lags(&self, now: u64, pulse: Pulse) -> bool
-        ensures { result ≡ lags self.now now pulse }
+    fn lags(&self, now: u64, pulse: &Pulse) -> bool
+        ensures { result ≡ lags self.now now pulse.now }
     {
         let executed = pulse.executed.saturating_sub(self.executed);
         let passed = now.saturating_sub(self.looked);
@@ -201,8 +202,8 @@ impl Watch {
     }
 
     /// How slow its view has been with what is seen at this moment.
-    fn slow_after(&self, now: u64, pulse: Pulse) -> u64
-        ensures { result ≡ slow_after self.now now pulse }
+    fn slow_after(&self, now: u64, pulse: &Pulse) -> u64
+        ensures { result ≡ slow_after self.now now pulse.now }
     {
         let passed = now.saturating_sub(self.looked);
         if pulse.view.0 != self.view.0 {
@@ -222,8 +223,8 @@ impl Watch {
     }
 
     /// Since when its view wasn't slow at all, or half of the views in vain were forgotten.
-    fn calm_after(&self, now: u64, pulse: Pulse) -> u64
-        ensures { result ≡ calm_after self.now now pulse }
+    fn calm_after(&self, now: u64, pulse: &Pulse) -> u64
+        ensures { result ≡ calm_after self.now now pulse.now }
     {
         let is_slow = pulse.view.0 != self.view.0 || self.slow_after(now, pulse) > 0;
         if is_slow || self.is_calm(now) {
@@ -236,8 +237,8 @@ impl Watch {
     /// How many views passed in vain before the one that it is in. One in which something was executed halves their
     /// number when it ends, and while it is calm: else a server at which a faulty party ends views would bear slow ones
     /// more and more.
-    fn vain_after(&self, now: u64, pulse: Pulse) -> u64
-        ensures { result ≡ vain_after self.now now pulse }
+    fn vain_after(&self, now: u64, pulse: &Pulse) -> u64
+        ensures { result ≡ vain_after self.now now pulse.now }
     {
         if pulse.view.0 == self.view.0 {
             if self.is_calm(now) {
@@ -256,8 +257,8 @@ impl Watch {
     /// How many times as long as usual a command may take, and its view lag: twice as many behind each view that ended though
     /// something was executed in it, up to the most; half as many while a view is calm. Where all leaders are slow, as on a
     /// machine that has too much to do, views would else pass without end, and bring ever less.
-    fn slack_after(&self, now: u64, pulse: Pulse) -> u64
-        ensures { result ≡ slack_after self.now now pulse }
+    fn slack_after(&self, now: u64, pulse: &Pulse) -> u64
+        ensures { result ≡ slack_after self.now now pulse.now }
     {
         if pulse.view.0 == self.view.0 {
             if self.is_calm(now) {
@@ -284,20 +285,39 @@ impl Watch {
         }
     }
 
-    /// How slow its view may be, where so many passed in vain, and commands may take so many times as long: where its leader may
-    /// climb no further, a part of that.
-    fn limit_where(&self, vain: u64, slack: u64, pulse: Pulse) -> u64
-        ensures { result ≡ limit_where self.now vain slack pulse }
+    /// How slow its view may be, where so many passed in vain, so many times: where its leader may climb no further, a part of
+    /// that.
+    fn limit_where(&self, vain: u64, times: u64, pulse: &Pulse) -> u64
+        ensures { result ≡ limit_where self.now vain times pulse.now }
     {
         let spent = is_spent(pulse.view.0, pulse.height, pulse.voted);
         let counted = self.counted(vain, pulse);
-        let limit = limit_of(self.limit, counted).saturating_mul(self.borne_by(slack));
+        let limit = limit_of(self.limit, counted).saturating_mul(times);
         if spent { limit / SPENT_PART } else { limit }
     }
 
+    /// How slow its view may be with what is seen at this moment.
+    fn limit_after(&self, now: u64, pulse: &Pulse) -> u64
+        ensures { result ≡ limit_after self.now now pulse.now }
+    {
+        let (vain, slack) = (self.vain_after(now, pulse), self.slack_after(now, pulse));
+        let times = self.borne_by(slack);
+        self.limit_where(vain, times, pulse)
+    }
+
+    /// How much it may lag while nothing is executed: no more than before its first command, however long its commands may take.
+    /// A leader that has served would else have so much time to fall silent in.
+    fn silence_after(&self, now: u64, pulse: &Pulse) -> u64
+        ensures { result ≡ silence_after self.now now pulse.now }
+    {
+        let (vain, slack) = (self.vain_after(now, pulse), self.slack_after(now, pulse));
+        let times = slack.min(BEGINNING_SLACK);
+        self.limit_where(vain, times, pulse)
+    }
+
     /// What it had voted for when its view began.
-    fn began_after(&self, pulse: Pulse) -> Height
-        ensures { result ≡ began_after self.now pulse }
+    fn began_after(&self, pulse: &Pulse) -> Height
+        ensures { result ≡ began_after self.now pulse.now }
     {
         if pulse.view.0 == self.view.0 {
             self.began
@@ -309,39 +329,39 @@ impl Watch {
     /// How many views in vain count against its view: but as many as leaders may be faulty, since what these do tells of no slow
     /// machine; and one for each `CLIMB_A_LIMIT` heights that it had voted for above its last executed block when its view began,
     /// since its leader has to come above them.
-    fn counted(&self, vain: u64, pulse: Pulse) -> u64
-        ensures { result ≡ counted self.now vain pulse }
+    fn counted(&self, vain: u64, pulse: &Pulse) -> u64
+        ensures { result ≡ counted self.now vain pulse.now }
     {
         let climb = brought(pulse.height, self.began_after(pulse)) / CLIMB_A_LIMIT;
         vain.saturating_sub(self.faults).saturating_add(climb)
     }
 
     /// Whether something was executed in the view that it is in.
-    fn served_after(&self, pulse: Pulse) -> bool
-        ensures { result ≡ served_after self.now pulse }
+    fn served_after(&self, pulse: &Pulse) -> bool
+        ensures { result ≡ served_after self.now pulse.now }
     {
         let stays = self.served && pulse.view.0 == self.view.0;
         stays || pulse.executed != self.executed
     }
 
     /// Whether its view lags, and has been slow for so long.
-    fn is_over(&self, now: u64, limit: u64, slow: u64, pulse: Pulse) -> bool
-        ensures { result ≡ is_over self.now now limit slow pulse }
+    fn is_over(&self, now: u64, limit: u64, slow: u64, pulse: &Pulse) -> bool
+        ensures { result ≡ is_over self.now now limit slow pulse.now }
     {
         self.lags(now, pulse) && slow >= limit
     }
 
     /// Whether its view or its last executed block changed since it was looked at last.
-    fn is_settled(&self, pulse: Pulse) -> bool
-        ensures { result ≡ settled self.now pulse }
+    fn is_settled(&self, pulse: &Pulse) -> bool
+        ensures { result ≡ settled self.now pulse.now }
     {
         !(pulse.view.0 == self.view.0 && pulse.height.0 == self.height.0)
     }
 
     /// Whether its view brought more heights without a decision than it may, whether or not anybody waits: else the
     /// leader of an idle server could fill the trees of all.
-    fn climbs(&self, pulse: Pulse) -> bool
-        ensures { result ≡ climbs self.now pulse }
+    fn climbs(&self, pulse: &Pulse) -> bool
+        ensures { result ≡ climbs self.now pulse.now }
     {
         let limit = most_undecided(pulse.view.0);
         let brought = brought(self.from, pulse.voted);
@@ -349,28 +369,59 @@ impl Watch {
     }
 
     /// Whether nothing that it proposed waits for votes, or it has just got on.
-    fn rests(&self, pulse: Pulse) -> bool
-        ensures { result ≡ rests self.now pulse }
+    fn rests(&self, pulse: &Pulse) -> bool
+        ensures { result ≡ rests self.now pulse.now }
     {
         let (wants, now) = (pulse.wants_beat, pulse.wants_beat_now);
         self.has_moved(pulse) || now || !wants
     }
 
     /// Whether what it proposed has waited through the whole pause.
-    fn is_overdue(&self, now: u64, pulse: Pulse) -> bool
-        ensures { result ≡ is_overdue self.now now pulse }
+    fn is_overdue(&self, now: u64, pulse: &Pulse) -> bool
+        ensures { result ≡ is_overdue self.now now pulse.now }
     {
         !self.rests(pulse) && now.saturating_sub(self.asked) >= self.pause
     }
 
-    /// How much the time since it got stuck counts, by the weight of lagging.
-    fn stuck_for(&self, now: u64) -> u64
-        ensures { result ≡ stuck_for self.now now }
+    /// Whether its requests lag, and nothing was executed since it was looked at last.
+    fn is_stuck(&self, now: u64, pulse: &Pulse) -> bool
+        ensures { result ≡ is_stuck self.now now pulse.now }
     {
-        now.saturating_sub(self.stuck).saturating_mul(LAG_WEIGHT)
+        let (moved, lags) = (self.has_moved(pulse), self.lags(now, pulse));
+        !moved && lags
     }
 
-    /// How much it may be stuck before it begins anew, where its view may be slow for so much: a part of that, and at
+    /// How much it has lagged since something was executed.
+    fn stuck_after(&self, now: u64, pulse: &Pulse) -> u64
+        ensures { result ≡ stuck_after self.now now pulse.now }
+    {
+        let passed = now.saturating_sub(self.looked);
+        if self.is_stuck(now, pulse) {
+            self.stuck.saturating_add(passed.saturating_mul(LAG_WEIGHT))
+        } else {
+            0
+        }
+    }
+
+    /// Whether it has lagged for so long while nothing was executed.
+    fn is_silent(&self, now: u64, limit: u64, stuck: u64, pulse: &Pulse) -> bool
+        ensures { result ≡ is_silent self.now now limit stuck pulse.now }
+    {
+        self.is_stuck(now, pulse) && stuck >= limit
+    }
+
+    /// Whether its view is over with what is seen at this moment: slow or silent for too long, or with too much undecided.
+    fn is_due(&self, now: u64, pulse: &Pulse) -> bool
+        ensures { result ≡ is_due self.now now pulse.now }
+    {
+        let (limit, slow) = (self.limit_after(now, pulse), self.slow_after(now, pulse));
+        let (silence, stuck) = (self.silence_after(now, pulse), self.stuck_after(now, pulse));
+        let over = self.is_over(now, limit, slow, pulse);
+        let silent = self.is_silent(now, silence, stuck, pulse);
+        over || silent || self.climbs(pulse)
+    }
+
+    /// How much it may be stuck before it begins anew, where its view may be so for so much: a part of that, and at
     /// least half of a command's time.
     fn lead_after(&self, limit: u64) -> u64
         ensures { result ≡ lead_after self.now.patience limit }
@@ -391,17 +442,25 @@ impl Watch {
         }
     }
 
-    /// From what it is to begin anew, where it is stuck or isn't: if it leads, and what it proposed waits for votes.
-    fn lead(&self, now: u64, limit: u64, pulse: Pulse, is_stuck: bool) -> Option<LeadFrom>
-        ensures { result ≡ lead_where self.now now limit pulse is_stuck }
+    /// From what it is to begin anew, after so much in which it was stuck: if it leads, and what it proposed waits for votes.
+    fn lead_where(&self, now: u64, limit: u64, stuck: u64, pulse: &Pulse) -> Option<LeadFrom>
+        ensures { result ≡ lead_where self.now now limit stuck pulse.now }
     {
         let waits = pulse.wants_beat && !pulse.wants_beat_now;
-        let (stuck, least) = (self.stuck_for(now), self.lead_after(limit));
-        if waits && is_stuck {
+        let least = self.lead_after(limit);
+        if waits && self.is_stuck(now, pulse) {
             self.next_lead(stuck, least)
         } else {
             None
         }
+    }
+
+    /// From what it is to begin anew with what is seen at this moment.
+    fn lead(&self, now: u64, pulse: &Pulse) -> Option<LeadFrom>
+        ensures { result ≡ lead_of self.now now pulse.now }
+    {
+        let (silence, stuck) = (self.silence_after(now, pulse), self.stuck_after(now, pulse));
+        self.lead_where(now, silence, stuck, pulse)
     }
 
     /// What is due to a replica of which this is seen at a moment, in milliseconds from some start.
@@ -409,14 +468,10 @@ impl Watch {
         ensures due { result ≡ due_of self.old now pulse }
         ensures watch { self.new ≡ looked self.old now pulse }
     {
-        let (moved, slow) = (self.has_moved(pulse), self.slow_after(now, pulse));
-        let (vain, slack) = (self.vain_after(now, pulse), self.slack_after(now, pulse));
-        let limit = self.limit_where(vain, slack, pulse);
-        let over = self.is_over(now, limit, slow, pulse) || self.climbs(pulse);
-        let (rests, overdue) = (self.rests(pulse), self.is_overdue(now, pulse));
-        let counts_anew = self.is_settled(pulse) || over;
-        let stuck = !moved && self.lags(now, pulse);
-        let lead = self.lead(now, limit, pulse, stuck);
+        let (over, lead) = (self.is_due(now, &pulse), self.lead(now, &pulse));
+        let (rests, overdue) = (self.rests(&pulse), self.is_overdue(now, &pulse));
+        let counts_anew = self.is_settled(&pulse) || over;
+        let stuck = self.is_stuck(now, &pulse);
         *self = Watch {
             view: pulse.view,
             executed: pulse.executed,
@@ -424,18 +479,26 @@ impl Watch {
             patience: self.patience,
             limit: self.limit,
             faults: self.faults,
-            slow: if over { 0 } else { slow },
+            slow: if over {
+                0
+            } else {
+                self.slow_after(now, &pulse)
+            },
             asked: if rests || overdue { now } else { self.asked },
-            pause: pause_after(self.pause, moved, overdue),
+            pause: pause_after(self.pause, self.has_moved(&pulse), overdue),
             height: pulse.height,
             from: if counts_anew { pulse.voted } else { self.from },
-            began: self.began_after(pulse),
-            stuck: if stuck { self.stuck } else { now },
+            began: self.began_after(&pulse),
+            stuck: if over {
+                0
+            } else {
+                self.stuck_after(now, &pulse)
+            },
             led: if stuck { lead.or(self.led) } else { None },
-            vain,
-            slack,
-            served: self.served_after(pulse),
-            calm: self.calm_after(now, pulse),
+            vain: self.vain_after(now, &pulse),
+            slack: self.slack_after(now, &pulse),
+            served: self.served_after(&pulse),
+            calm: self.calm_after(now, &pulse),
         };
         Due {
             beat: pulse.wants_beat_now || overdue,
