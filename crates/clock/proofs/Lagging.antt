@@ -1,14 +1,14 @@
 -- The laws of the rule.
-use Rattle.std.proofs.Common.{ℕ, ◌+◌, ◌*◌, ◌/◌, ◌-◌, ◌^◌, ◌≤◌, ◌==◌, Bool, true, false, not, cond, min}
+use Rattle.std.proofs.Common.{ℕ, ◌+◌, ◌*◌, ◌/◌, ◌-◌, ◌^◌, ◌≤◌, ◌==◌, Bool, true, false, not, cond, max, min}
 use Rattle.std.proofs.Common.{[], ◌∷◌, arith, inl, inr, le_trans, nat_le, ◌≡◌, refl, sym, subst, ◌∙◌}
 use Rattle.std.proofs.lemmas.Bool.{and_parts, and_from, or_cases, or_left, or_right, cond_both, cond-true, cond-false, leb-true, leb-false}
 use Rattle.std.proofs.lemmas.Bool.{le-leb, eq-eqb, not_from_true}
-use Rattle.std.proofs.Math.Nat.{div-le_self, min-le_left, min-le_right, min-eq_left, min-eq_right, le-min, mul-le-mul_left}
+use Rattle.std.proofs.Math.Nat.{div-le_self, min-le_left, min-le_right, min-eq_left, min-eq_right, le-min, le-max_left, le-max_right, max-le, mul-le-mul_left}
 use Rattle.ids.specs.Sizes.{Sizes}
 use Rattle.clock.specs.declared.watch.Pulse.{Pulse}
 use Rattle.clock.specs.declared.watch.Watch.{Watch}
 use Rattle.tuning.specs.declared.clocks.TheConstants.{BEGINNING_SLACK, SPENT_PART}
-use Rattle.clock.specs.Watching.{borne_by, counted, is_calm, is_due, is_overdue, is_spent, is_stuck, lags, limit_after}
+use Rattle.clock.specs.Watching.{borne_by, counted, hush_after, is_calm, is_due, is_overdue, is_spent, is_stuck, kept_by, lags, limit_after}
 use Rattle.clock.specs.Watching.{limit_of, limit_where, moved, silence_after, slack_after, slow_after, stuck_after, vain_after}
 use Rattle.clock.specs.Laws.{Looks, watched, lagged, lagged_on, silent, EndsSilences, IsEarned, IsGiven, IsOwed, IsPatient, IsSlack}
 
@@ -160,17 +160,25 @@ is-given config times earlier now p same l h =
     (subst (λ (n : ℕ). limit_after w now p ≤ n) (sym seen)
     (le_trans (subst (λ (n : ℕ). limit_after w now p ≤ min n most) sum least) k)))))
 
+-- how many times as long nothing may be executed, at most
+kept-few : (w : Watch) (slack hush : ℕ) → kept_by w slack hush ≤ max BEGINNING_SLACK hush
+kept-few w slack hush =
+    let least = le_trans (min-le_right slack 2) (le-max_left 2 hush) in
+    cond_both w.served (max (min slack 2) hush) (min slack 2) (λ (n : ℕ). n ≤ max 2 hush)
+    (λ t. max-le least (le-max_right 2 hush)) (λ f. least)
+
 pub ends-silences : EndsSilences
 ends-silences config times earlier now p stuck h =
     let w = watched config times earlier in
     let most = 2 ^ 64 - 1 in
     let passed = now - w.looked in
     let vain = vain_after w now p in
-    let few = min (slack_after w now p) BEGINNING_SLACK in
+    let few = kept_by w (slack_after w now p) (hush_after w now p) in
     let seen : stuck_after w now p ≡ min (w.stuck + min (passed * 3) most) most = cond-true _ _ _ stuck in
     let k = most-added (3 * silent config times earlier) (passed * 3) w.stuck most (stuck-on config times earlier) in
     let limit = limit_of w.limit (counted w vain p) in
-    let less : limit * few ≤ limit * 2 = mul-le-mul_left limit (min-le_right (slack_after w now p) 2) in
+    let less : limit * few ≤ limit * max 2 (hush_after w now p) =
+    mul-le-mul_left limit (kept-few w (slack_after w now p) (hush_after w now p)) in
     let part = limit-most w vain few p in
     let within = le_trans (le_trans part (min-le_left (limit * few) most)) (le_trans less h) in
     let least = le-min {b = most} within (le_trans part (min-le_right (limit * few) most)) in

@@ -1,11 +1,11 @@
 -- What the rule is for.
-use Rattle.std.specs.Prelude.{◌≡◌, ℕ, ◌+◌, ◌*◌, ◌-◌, ◌≤◌, ◌⊎◌, ◌==◌, true, not, List, [], ◌∷◌}
+use Rattle.std.specs.Prelude.{◌≡◌, ℕ, ◌+◌, ◌*◌, ◌-◌, ◌≤◌, ◌⊎◌, ◌==◌, true, not, max, List, [], ◌∷◌}
 use Rattle.std.specs.Prelude.{if◌then◌else◌}
 use Rattle.tuning.specs.declared.clocks.TheConstants.{BEGINNING_SLACK, LAG_WEIGHT, LEAST_BEAT_MILLIS, MOST_SLACK}
 use Rattle.ids.specs.Sizes.{Sizes}
 use Rattle.clock.specs.declared.watch.Pulse.{Pulse}
 use Rattle.clock.specs.declared.watch.Watch.{Watch}
-use Rattle.clock.specs.Watching.{climbs, counted, is_due, is_stuck, lags, limit_after, limit_of, looked, silence_after, unseen, vain_after}
+use Rattle.clock.specs.Watching.{climbs, counted, hush_after, is_due, is_stuck, lags, limit_after, limit_of, looked, silence_after, unseen, vain_after}
 
 -- the looks at a replica of these sizes, which may take so many times as long: each at a moment, and what was seen then; the last one first
 abbrev pub Looks : Type 0
@@ -65,11 +65,11 @@ IsGiven = (config : Sizes) (times : ℕ) (earlier : Looks) (now : ℕ) (p : Puls
     → is_due w now p ≡ true)
 
 -- A timeout is due once the replica has lagged at each look without anything executed for a third of what a view may lag at its
--- beginning, this look included: however slow the view may be by now.
+-- beginning, this look included, or of so much more as views had been silent that served: however slow its commands may be.
 abbrev pub EndsSilences : Type 0
 EndsSilences = (config : Sizes) (times : ℕ) (earlier : Looks) (now : ℕ) (p : Pulse)
     → (let w = watched config times earlier in is_stuck w now p ≡ true
-    → limit_of w.limit (counted w (vain_after w now p) p) * BEGINNING_SLACK ≤ LAG_WEIGHT * (silent config times earlier + (now - w.looked))
+    → limit_of w.limit (counted w (vain_after w now p) p) * max BEGINNING_SLACK (hush_after w now p) ≤ LAG_WEIGHT * (silent config times earlier + (now - w.looked))
     → is_due w now p ≡ true)
 
 -- A proposal may always wait for the least pause before there is a beat on top of it.

@@ -14,8 +14,8 @@ pub fn timeouts_are_given()
     ensures { IsGiven }
 {}
 
-/// A timeout is due once the replica was silent for a third of what a view may lag at its beginning, at each look: however slow it
-/// may be by now.
+/// A timeout is due once the replica was silent for a third of what a view may lag at its beginning, at each look, or of so much
+/// more as views had been silent that served: however slow its commands may be.
 pub fn silences_end()
     ensures { EndsSilences }
 {}

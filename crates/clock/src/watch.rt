@@ -1,8 +1,8 @@
 //! What is due to one replica.
 
 ghost use Rattle.std.specs.Prelude.{◌≡◌, ◌-◌, if◌then◌else◌};
-ghost use Rattle.clock.specs.Watching.{began_after, borne, borne_by, calm_after, climbs, counted, due_of, is_calm, is_due, is_over, is_overdue, is_silent, is_spent};
-ghost use Rattle.clock.specs.Watching.{is_stuck, lags, lead_after, lead_of, lead_where, limit_after, limit_of, limit_where, looked, most_undecided, moved, next_lead};
+ghost use Rattle.clock.specs.Watching.{began_after, borne, borne_by, calm_after, climbs, counted, due_of, hush_after, hushed_after, is_calm, is_due, is_over, is_overdue, is_silent, is_spent};
+ghost use Rattle.clock.specs.Watching.{is_stuck, kept_by, lags, lead_after, lead_of, lead_where, limit_after, limit_of, limit_where, looked, most_undecided, moved, next_lead};
 ghost use Rattle.clock.specs.Watching.{patience_of, pause_after, rests, served_after, settled, silence_after, slack_after, slow_after, stuck_after, unseen, vain_after};
 
 use ids::{Config, Fault, Height, View};
@@ -88,6 +88,10 @@ pub struct Watch {
     /// How many times as long as usual a command may take, and its view lag.
     slack: u64,
     served: bool,
+    /// How many times as long as usual nothing may be executed in a view that serves, and whether nothing has been in this one for
+    /// half of that.
+    hush: u64,
+    hushed: bool,
     /// Since when its view wasn't slow at all, or half of those views were forgotten.
     calm: u64,
 }
@@ -171,6 +175,8 @@ impl Watch {
             vain: 0,
             slack: 1,
             served: false,
+            hush: 1,
+            hushed: false,
             calm: 0,
         }
     }
@@ -273,6 +279,25 @@ impl Watch {
         }
     }
 
+    /// How many times as long as usual nothing may be executed in a view that serves: twice as many behind each that was silent at
+    /// its end though it had served, up to the most; half as many while a view is calm. A machine that has too much to do is
+    /// silent for long beside correct leaders.
+    fn hush_after(&self, now: u64, pulse: &Pulse) -> u64
+        ensures { result ≡ hush_after self.now now pulse.now }
+    {
+        if pulse.view.0 == self.view.0 {
+            if self.is_calm(now) {
+                (self.hush / 2).max(1)
+            } else {
+                self.hush
+            }
+        } else if self.served && self.hushed {
+            self.hush.saturating_mul(2).min(MOST_SLACK)
+        } else {
+            self.hush
+        }
+    }
+
     /// How many times as slow its view may be, where a command may take so many times as long: as many, and before anything was
     /// executed in it a few at most. Leaders that are silent in turn would else each have so much time.
     fn borne_by(&self, slack: u64) -> u64
@@ -283,6 +308,15 @@ impl Watch {
         } else {
             slack.min(BEGINNING_SLACK)
         }
+    }
+
+    /// How many times as long nothing may be executed in it: as long as at its beginning, and where it served, so many times. One
+    /// that bore as much silence as it may lag would bear it from all who fall silent together.
+    fn kept_by(&self, slack: u64, hush: u64) -> u64
+        ensures { result ≡ kept_by self.now slack hush }
+    {
+        let least = slack.min(BEGINNING_SLACK);
+        if self.served { least.max(hush) } else { least }
     }
 
     /// How slow its view may be, where so many passed in vain, so many times: where its leader may climb no further, a part of
@@ -305,13 +339,12 @@ impl Watch {
         self.limit_where(vain, times, pulse)
     }
 
-    /// How much it may lag while nothing is executed: no more than before its first command, however long its commands may take.
-    /// A leader that has served would else have so much time to fall silent in.
+    /// How much it may lag while nothing is executed.
     fn silence_after(&self, now: u64, pulse: &Pulse) -> u64
         ensures { result ≡ silence_after self.now now pulse.now }
     {
         let (vain, slack) = (self.vain_after(now, pulse), self.slack_after(now, pulse));
-        let times = slack.min(BEGINNING_SLACK);
+        let times = self.kept_by(slack, self.hush_after(now, pulse));
         self.limit_where(vain, times, pulse)
     }
 
@@ -403,6 +436,15 @@ impl Watch {
         }
     }
 
+    /// Whether nothing has been executed in its view for half of what that may last, and still isn't.
+    fn hushed_after(&self, now: u64, pulse: &Pulse) -> bool
+        ensures { result ≡ hushed_after self.now now pulse.now }
+    {
+        let half = self.silence_after(now, pulse) / 2;
+        let long = self.stuck_after(now, pulse) >= half;
+        !self.has_moved(pulse) && (self.hushed || long)
+    }
+
     /// Whether it has lagged for so long while nothing was executed.
     fn is_silent(&self, now: u64, limit: u64, stuck: u64, pulse: &Pulse) -> bool
         ensures { result ≡ is_silent self.now now limit stuck pulse.now }
@@ -463,47 +505,60 @@ impl Watch {
         self.lead_where(now, silence, stuck, pulse)
     }
 
-    /// What is due to a replica of which this is seen at a moment, in milliseconds from some start.
-    pub fn look(&mut self, now: u64, pulse: Pulse) -> Due
-        ensures due { result ≡ due_of self.old now pulse }
-        ensures watch { self.new ≡ looked self.old now pulse }
+    /// What is due with what is seen at this moment.
+    fn due(&self, now: u64, pulse: &Pulse) -> Due
+        ensures { result ≡ due_of self.now now pulse.now }
     {
-        let (over, lead) = (self.is_due(now, &pulse), self.lead(now, &pulse));
-        let (rests, overdue) = (self.rests(&pulse), self.is_overdue(now, &pulse));
-        let counts_anew = self.is_settled(&pulse) || over;
-        let stuck = self.is_stuck(now, &pulse);
-        *self = Watch {
+        Due {
+            beat: pulse.wants_beat_now || self.is_overdue(now, pulse),
+            timeout: self.is_due(now, pulse).then_some(pulse.view),
+            lead: self.lead(now, pulse),
+        }
+    }
+
+    /// What was seen so far, with this. How slow the view was, how silent, and what it brought, begins anew where a timeout is due.
+    fn after(&self, now: u64, pulse: &Pulse) -> Watch
+        ensures { result ≡ looked self.now now pulse.now }
+    {
+        let (over, stuck) = (self.is_due(now, pulse), self.is_stuck(now, pulse));
+        let (rests, overdue) = (self.rests(pulse), self.is_overdue(now, pulse));
+        let counts_anew = self.is_settled(pulse) || over;
+        let lead = self.lead(now, pulse);
+        Watch {
             view: pulse.view,
             executed: pulse.executed,
             looked: now,
             patience: self.patience,
             limit: self.limit,
             faults: self.faults,
-            slow: if over {
-                0
-            } else {
-                self.slow_after(now, &pulse)
-            },
+            slow: if over { 0 } else { self.slow_after(now, pulse) },
             asked: if rests || overdue { now } else { self.asked },
-            pause: pause_after(self.pause, self.has_moved(&pulse), overdue),
+            pause: pause_after(self.pause, self.has_moved(pulse), overdue),
             height: pulse.height,
             from: if counts_anew { pulse.voted } else { self.from },
-            began: self.began_after(&pulse),
+            began: self.began_after(pulse),
             stuck: if over {
                 0
             } else {
-                self.stuck_after(now, &pulse)
+                self.stuck_after(now, pulse)
             },
             led: if stuck { lead.or(self.led) } else { None },
-            vain: self.vain_after(now, &pulse),
-            slack: self.slack_after(now, &pulse),
-            served: self.served_after(&pulse),
-            calm: self.calm_after(now, &pulse),
-        };
-        Due {
-            beat: pulse.wants_beat_now || overdue,
-            timeout: over.then_some(pulse.view),
-            lead,
+            vain: self.vain_after(now, pulse),
+            slack: self.slack_after(now, pulse),
+            served: self.served_after(pulse),
+            hush: self.hush_after(now, pulse),
+            hushed: self.hushed_after(now, pulse),
+            calm: self.calm_after(now, pulse),
         }
+    }
+
+    /// What is due to a replica of which this is seen at a moment, in milliseconds from some start.
+    pub fn look(&mut self, now: u64, pulse: Pulse) -> Due
+        ensures due { result ≡ due_of self.old now pulse }
+        ensures watch { self.new ≡ looked self.old now pulse }
+    {
+        let due = self.due(now, &pulse);
+        *self = self.after(now, &pulse);
+        due
     }
 }
