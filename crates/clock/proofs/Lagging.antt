@@ -1,16 +1,16 @@
 -- The laws of the rule.
-use Rattle.std.proofs.Common.{ℕ, ◌+◌, ◌*◌, ◌/◌, ◌-◌, ◌^◌, ◌≤◌, ◌==◌, Bool, true, false, not, cond, max, min}
+use Rattle.std.proofs.Common.{ℕ, ◌&&◌, ◌+◌, ◌*◌, ◌/◌, ◌-◌, ◌^◌, ◌≤◌, ◌==◌, Bool, true, false, not, cond, max, min}
 use Rattle.std.proofs.Common.{[], ◌∷◌, arith, inl, inr, le_trans, nat_le, ◌≡◌, refl, sym, subst, ◌∙◌}
 use Rattle.std.proofs.lemmas.Bool.{and_parts, and_from, or_cases, or_left, or_right, cond_both, cond-true, cond-false, leb-true, leb-false}
-use Rattle.std.proofs.lemmas.Bool.{le-leb, eq-eqb, not_from_true}
+use Rattle.std.proofs.lemmas.Bool.{le-leb, eq-eqb, not-true, not_from_true}
 use Rattle.std.proofs.Math.Nat.{div-le_self, min-le_left, min-le_right, min-eq_left, min-eq_right, le-min, le-max_left, le-max_right, max-le, mul-le-mul_left}
 use Rattle.ids.specs.Sizes.{Sizes}
 use Rattle.clock.specs.declared.watch.Pulse.{Pulse}
 use Rattle.clock.specs.declared.watch.Watch.{Watch}
-use Rattle.tuning.specs.declared.clocks.TheConstants.{BEGINNING_SLACK, SPENT_PART}
-use Rattle.clock.specs.Watching.{borne_by, counted, hush_after, is_calm, is_due, is_overdue, is_spent, is_stuck, kept_by, lags, limit_after}
+use Rattle.tuning.specs.declared.clocks.TheConstants.{SPENT_PART}
+use Rattle.clock.specs.Watching.{borne_by, counted, is_calm, is_due, is_overdue, is_spent, is_stuck, lags, limit_after}
 use Rattle.clock.specs.Watching.{limit_of, limit_where, moved, silence_after, slack_after, slow_after, stuck_after, vain_after}
-use Rattle.clock.specs.Laws.{Looks, watched, lagged, lagged_on, silent, EndsSilences, IsEarned, IsGiven, IsOwed, IsPatient, IsSlack}
+use Rattle.clock.specs.Laws.{Looks, watched, lagged, lagged_on, most_silent, silent, EndsSilences, IsEarned, IsGiven, IsOwed, IsPatient, IsSlack}
 
 -- three times the time is as much as the count, at most
 slow-most : (w : Watch) (now : ℕ) (p : Pulse) (k : ℕ) → w.slow ≤ 3 * k
@@ -160,33 +160,6 @@ is-given config times earlier now p same l h =
     (subst (λ (n : ℕ). limit_after w now p ≤ n) (sym seen)
     (le_trans (subst (λ (n : ℕ). limit_after w now p ≤ min n most) sum least) k)))))
 
--- how many times as long nothing may be executed, at most
-kept-few : (w : Watch) (slack hush : ℕ) → kept_by w slack hush ≤ max BEGINNING_SLACK hush
-kept-few w slack hush =
-    let least = le_trans (min-le_right slack 2) (le-max_left 2 hush) in
-    cond_both w.served (max (min slack 2) hush) (min slack 2) (λ (n : ℕ). n ≤ max 2 hush)
-    (λ t. max-le least (le-max_right 2 hush)) (λ f. least)
-
-pub ends-silences : EndsSilences
-ends-silences config times earlier now p stuck h =
-    let w = watched config times earlier in
-    let most = 2 ^ 64 - 1 in
-    let passed = now - w.looked in
-    let vain = vain_after w now p in
-    let few = kept_by w (slack_after w now p) (hush_after w now p) in
-    let seen : stuck_after w now p ≡ min (w.stuck + min (passed * 3) most) most = cond-true _ _ _ stuck in
-    let k = most-added (3 * silent config times earlier) (passed * 3) w.stuck most (stuck-on config times earlier) in
-    let limit = limit_of w.limit (counted w vain p) in
-    let less : limit * few ≤ limit * max 2 (hush_after w now p) =
-    mul-le-mul_left limit (kept-few w (slack_after w now p) (hush_after w now p)) in
-    let part = limit-most w vain few p in
-    let within = le_trans (le_trans part (min-le_left (limit * few) most)) (le_trans less h) in
-    let least = le-min {b = most} within (le_trans part (min-le_right (limit * few) most)) in
-    let sum : 3 * (silent config times earlier + passed) ≡ 3 * silent config times earlier + passed * 3 = omega arith in
-    or_left _ _ (or_right _ _ (and_from _ _ stuck (le-leb _ _
-    (subst (λ (n : ℕ). silence_after w now p ≤ n) (sym seen)
-    (le_trans (subst (λ (n : ℕ). silence_after w now p ≤ min n most) sum least) k)))))
-
 pub is-patient : IsPatient
 unfolding watched
 is-patient config times [] = omega arith
@@ -212,3 +185,73 @@ unfolding watched
 is-owed config times [] = (omega arith, omega arith)
 is-owed config times (x ∷ earlier) =
     slack-within (watched config times earlier) x.0 x.1 (is-owed config times earlier)
+
+-- a limit so many times, where that is no more than so many
+times-most : (w : Watch) (vain times most : ℕ) (p : Pulse) → times ≤ most
+    → limit_where w vain times p ≤ min (limit_of w.limit (counted w vain p) * most) (2 ^ 64 - 1)
+times-most w vain times most p few =
+    let limit = limit_of w.limit (counted w vain p) in
+    let part = limit-most w vain times p in
+    le-min {b = 2 ^ 64 - 1}
+    (le_trans (le_trans part (min-le_left (limit * times) (2 ^ 64 - 1))) (mul-le-mul_left limit few))
+    (le_trans part (min-le_right (limit * times) (2 ^ 64 - 1)))
+
+-- how much it may lag while nothing is executed, at most
+silent-most : (w : Watch) (now : ℕ) (p : Pulse) → IsSlack (slack_after w now p)
+    → silence_after w now p ≤ min (most_silent w now p) (2 ^ 64 - 1)
+silent-most w now p within =
+    cond_both (w.served && not p.passed) (max least more) least (λ (n : ℕ). n ≤ min (max first second) most)
+    (λ t. max-le is-least (is-more (not-true p.passed (and_parts _ _ t).1))) (λ f. is-least)
+  where
+    most : ℕ
+    most = 2 ^ 64 - 1
+
+    times : ℕ
+    times = slack_after w now p
+
+    vain : ℕ
+    vain = vain_after w now p
+
+    least : ℕ
+    least = limit_where w vain (min times 2) p
+
+    more : ℕ
+    more = limit_where w 0 times p
+
+    first : ℕ
+    first = limit_of w.limit (counted w vain p) * 2
+
+    all : ℕ
+    all = limit_of w.limit (counted w 0 p) * 16
+
+    second : ℕ
+    second = cond p.passed 0 all
+
+    is-least : least ≤ min (max first second) most
+    is-least =
+        let part = times-most w vain (min times 2) 2 p (min-le_right times 2) in
+        le-min {b = most} (le_trans (le_trans part (min-le_left first most)) (le-max_left first second))
+        (le_trans part (min-le_right first most))
+
+    is-more : p.passed ≡ false → more ≤ min (max first second) most
+    is-more unpassed =
+        let part = times-most w 0 times 16 p within.1 in
+        let there = subst (λ (n : ℕ). all ≤ n) (sym (cond-false p.passed 0 all unpassed)) (omega arith) in
+        le-min {b = most}
+        (le_trans (le_trans part (min-le_left all most)) (le_trans there (le-max_right first second)))
+        (le_trans part (min-le_right all most))
+
+pub ends-silences : EndsSilences
+ends-silences config times earlier now p stuck h =
+    let w = watched config times earlier in
+    let most = 2 ^ 64 - 1 in
+    let passed = now - w.looked in
+    let seen : stuck_after w now p ≡ min (w.stuck + min (passed * 3) most) most = cond-true _ _ _ stuck in
+    let k = most-added (3 * silent config times earlier) (passed * 3) w.stuck most (stuck-on config times earlier) in
+    let part = silent-most w now p (slack-within w now p (is-owed config times earlier)) in
+    let within = le_trans (le_trans part (min-le_left (most_silent w now p) most)) h in
+    let least = le-min {b = most} within (le_trans part (min-le_right (most_silent w now p) most)) in
+    let sum : 3 * (silent config times earlier + passed) ≡ 3 * silent config times earlier + passed * 3 = omega arith in
+    or_left _ _ (or_right _ _ (and_from _ _ stuck (le-leb _ _
+    (subst (λ (n : ℕ). silence_after w now p ≤ n) (sym seen)
+    (le_trans (subst (λ (n : ℕ). silence_after w now p ≤ min n most) sum least) k)))))

@@ -5,7 +5,7 @@ use Rattle.tuning.specs.declared.clocks.TheConstants.{BEGINNING_SLACK, LAG_WEIGH
 use Rattle.ids.specs.Sizes.{Sizes}
 use Rattle.clock.specs.declared.watch.Pulse.{Pulse}
 use Rattle.clock.specs.declared.watch.Watch.{Watch}
-use Rattle.clock.specs.Watching.{climbs, counted, hush_after, is_due, is_stuck, lags, limit_after, limit_of, looked, silence_after, unseen, vain_after}
+use Rattle.clock.specs.Watching.{climbs, counted, is_due, is_stuck, lags, limit_after, limit_of, looked, silence_after, unseen, vain_after}
 
 -- the looks at a replica of these sizes, which may take so many times as long: each at a moment, and what was seen then; the last one first
 abbrev pub Looks : Type 0
@@ -64,12 +64,18 @@ IsGiven = (config : Sizes) (times : ℕ) (earlier : Looks) (now : ℕ) (p : Puls
     → limit_after w now p ≤ LAG_WEIGHT * (lagged_on config times earlier + (now - w.looked))
     → is_due w now p ≡ true)
 
--- A timeout is due once the replica has lagged at each look without anything executed for a third of what a view may lag at its
--- beginning, this look included, or of so much more as views had been silent that served: however slow its commands may be.
+-- the most that a replica may lag while nothing is executed: twice as much as views in vain allow; and where nobody is in a later
+-- view, so many times as much as none in vain would allow
+abbrev pub most_silent : Watch → ℕ → Pulse → ℕ
+most_silent w now p =
+    max (limit_of w.limit (counted w (vain_after w now p) p) * BEGINNING_SLACK)
+    (if p.passed then 0 else limit_of w.limit (counted w 0 p) * MOST_SLACK)
+
+-- A timeout is due once the replica has lagged at each look without anything executed for a third of that, this look included.
 abbrev pub EndsSilences : Type 0
 EndsSilences = (config : Sizes) (times : ℕ) (earlier : Looks) (now : ℕ) (p : Pulse)
     → (let w = watched config times earlier in is_stuck w now p ≡ true
-    → limit_of w.limit (counted w (vain_after w now p) p) * max BEGINNING_SLACK (hush_after w now p) ≤ LAG_WEIGHT * (silent config times earlier + (now - w.looked))
+    → most_silent w now p ≤ LAG_WEIGHT * (silent config times earlier + (now - w.looked))
     → is_due w now p ≡ true)
 
 -- A proposal may always wait for the least pause before there is a beat on top of it.

@@ -35,8 +35,6 @@ unseen config times = record {
   led = None;
   vain = 0;
   slack = 1;
-  hush = 1;
-  hushed = false;
   served = false;
   calm = 0;
 }
@@ -88,14 +86,6 @@ slack_after w now p =
     else if w.served then min (min (w.slack * 2) (2 ^ 64 - 1)) MOST_SLACK
     else w.slack
 
--- How many times as long as usual nothing may be executed in a view that serves: twice as many behind each that was silent at
--- its end though something had been executed in it, up to the most; half as many while a view is calm.
-abbrev pub hush_after : Watch → ℕ → Pulse → ℕ
-hush_after w now p =
-    if p.view == w.view then (if is_calm w now then max (w.hush / 2) 1 else w.hush)
-    else if w.served && w.hushed then min (min (w.hush * 2) (2 ^ 64 - 1)) MOST_SLACK
-    else w.hush
-
 -- something was executed in the view that it is in
 abbrev pub served_after : Watch → Pulse → Bool
 served_after w p = (w.served && (p.view == w.view)) || not (p.executed == w.executed)
@@ -118,10 +108,6 @@ limit_of least vain =
 abbrev pub borne_by : Watch → (slack : ℕ) → ℕ
 borne_by w slack = if w.served then slack else min slack BEGINNING_SLACK
 
--- how many times as long nothing may be executed in it: as long as at its beginning, and where it served, so many times
-abbrev pub kept_by : Watch → (slack hush : ℕ) → ℕ
-kept_by w slack hush = if w.served then max (min slack BEGINNING_SLACK) hush else min slack BEGINNING_SLACK
-
 -- how many heights a view may bring without a decision: so many, and as many more for each view before it
 abbrev pub most_undecided : ℕ → ℕ
 most_undecided view = min (min (view + 1) (2 ^ 64 - 1) * MOST_UNDECIDED) (2 ^ 64 - 1)
@@ -139,9 +125,12 @@ limit_where w vain times p =
 abbrev pub limit_after : Watch → ℕ → Pulse → ℕ
 limit_after w now p = limit_where w (vain_after w now p) (borne_by w (slack_after w now p)) p
 
--- how much it may lag while nothing is executed
+-- How much it may lag while nothing is executed: as much as at its beginning. Where something was executed in it, and nobody is in a
+-- later view, so many times as its commands may take as long, too, but no more for views in vain.
 abbrev pub silence_after : Watch → ℕ → Pulse → ℕ
-silence_after w now p = limit_where w (vain_after w now p) (kept_by w (slack_after w now p) (hush_after w now p)) p
+silence_after w now p =
+    let least = limit_where w (vain_after w now p) (min (slack_after w now p) BEGINNING_SLACK) p in
+    if w.served && not p.passed then max least (limit_where w 0 (slack_after w now p) p) else least
 
 -- it lags, and has been slow for so long
 abbrev pub is_over : Watch → (now limit slow : ℕ) → Pulse → Bool
@@ -166,10 +155,6 @@ stuck_after w now p = if is_stuck w now p then min (w.stuck + min ((now - w.look
 -- it has lagged for so long while nothing was executed
 abbrev pub is_silent : Watch → (now limit stuck : ℕ) → Pulse → Bool
 is_silent w now limit stuck p = is_stuck w now p && nat_le limit stuck
-
--- nothing has been executed in its view for half of what that may last, and still isn't
-abbrev pub hushed_after : Watch → ℕ → Pulse → Bool
-hushed_after w now p = not (moved w p) && (w.hushed || nat_le (silence_after w now p / 2) (stuck_after w now p))
 
 -- its view is over with what is seen at this moment
 abbrev pub is_due : Watch → ℕ → Pulse → Bool
@@ -239,8 +224,6 @@ looked w now p = record {
   led = if is_stuck w now p then option_or (lead_of w now p) w.led else None;
   vain = vain_after w now p;
   slack = slack_after w now p;
-  hush = hush_after w now p;
-  hushed = hushed_after w now p;
   served = served_after w p;
   calm = calm_after w now p;
 }

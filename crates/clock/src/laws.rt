@@ -14,8 +14,8 @@ pub fn timeouts_are_given()
     ensures { IsGiven }
 {}
 
-/// A timeout is due once the replica was silent for a third of what a view may lag at its beginning, at each look, or of so much
-/// more as views had been silent that served: however slow its commands may be.
+/// A timeout is due once the replica was silent at each look for a third of what a view may lag at its beginning, or, where nobody is
+/// in a later view, of `MOST_SLACK` times what it may where none passed in vain.
 pub fn silences_end()
     ensures { EndsSilences }
 {}

@@ -1,8 +1,8 @@
 //! What is due to one replica.
 
 ghost use Rattle.std.specs.Prelude.{◌≡◌, ◌-◌, if◌then◌else◌};
-ghost use Rattle.clock.specs.Watching.{began_after, borne, borne_by, calm_after, climbs, counted, due_of, hush_after, hushed_after, is_calm, is_due, is_over, is_overdue, is_silent, is_spent};
-ghost use Rattle.clock.specs.Watching.{is_stuck, kept_by, lags, lead_after, lead_of, lead_where, limit_after, limit_of, limit_where, looked, most_undecided, moved, next_lead};
+ghost use Rattle.clock.specs.Watching.{began_after, borne, borne_by, calm_after, climbs, counted, due_of, is_calm, is_due, is_over, is_overdue, is_silent, is_spent};
+ghost use Rattle.clock.specs.Watching.{is_stuck, lags, lead_after, lead_of, lead_where, limit_after, limit_of, limit_where, looked, most_undecided, moved, next_lead};
 ghost use Rattle.clock.specs.Watching.{patience_of, pause_after, rests, served_after, settled, silence_after, slack_after, slow_after, stuck_after, unseen, vain_after};
 
 use ids::{Config, Fault, Height, View};
@@ -31,6 +31,8 @@ pub struct Pulse {
     pub voted: Height,
     /// The horizon of its tree.
     pub horizon: Height,
+    /// Whether another one is in a later view.
+    pub passed: bool,
     /// Why it stopped. None while it goes on.
     pub stopped: Option<Fault>,
 }
@@ -88,10 +90,6 @@ pub struct Watch {
     /// How many times as long as usual a command may take, and its view lag.
     slack: u64,
     served: bool,
-    /// How many times as long as usual nothing may be executed in a view that serves, and whether nothing has been in this one for
-    /// half of that.
-    hush: u64,
-    hushed: bool,
     /// Since when its view wasn't slow at all, or half of those views were forgotten.
     calm: u64,
 }
@@ -175,8 +173,6 @@ impl Watch {
             vain: 0,
             slack: 1,
             served: false,
-            hush: 1,
-            hushed: false,
             calm: 0,
         }
     }
@@ -279,25 +275,6 @@ impl Watch {
         }
     }
 
-    /// How many times as long as usual nothing may be executed in a view that serves: twice as many behind each that was silent at
-    /// its end though it had served, up to the most; half as many while a view is calm. A machine that has too much to do is
-    /// silent for long beside correct leaders.
-    fn hush_after(&self, now: u64, pulse: &Pulse) -> u64
-        ensures { result ≡ hush_after self.now now pulse.now }
-    {
-        if pulse.view.0 == self.view.0 {
-            if self.is_calm(now) {
-                (self.hush / 2).max(1)
-            } else {
-                self.hush
-            }
-        } else if self.served && self.hushed {
-            self.hush.saturating_mul(2).min(MOST_SLACK)
-        } else {
-            self.hush
-        }
-    }
-
     /// How many times as slow its view may be, where a command may take so many times as long: as many, and before anything was
     /// executed in it a few at most. Leaders that are silent in turn would else each have so much time.
     fn borne_by(&self, slack: u64) -> u64
@@ -308,15 +285,6 @@ impl Watch {
         } else {
             slack.min(BEGINNING_SLACK)
         }
-    }
-
-    /// How many times as long nothing may be executed in it: as long as at its beginning, and where it served, so many times. One
-    /// that bore as much silence as it may lag would bear it from all who fall silent together.
-    fn kept_by(&self, slack: u64, hush: u64) -> u64
-        ensures { result ≡ kept_by self.now slack hush }
-    {
-        let least = slack.min(BEGINNING_SLACK);
-        if self.served { least.max(hush) } else { least }
     }
 
     /// How slow its view may be, where so many passed in vain, so many times: where its leader may climb no further, a part of
@@ -339,13 +307,19 @@ impl Watch {
         self.limit_where(vain, times, pulse)
     }
 
-    /// How much it may lag while nothing is executed.
+    /// How much it may lag while nothing is executed: as much as at its beginning. Where something was executed in it, and nobody
+    /// is in a later view, so many times as its commands may take as long, too, but no more for views in vain. Else those who are
+    /// left behind by others, and those who wait for leaders that fell silent, would wait as long as a slow machine has them do.
     fn silence_after(&self, now: u64, pulse: &Pulse) -> u64
         ensures { result ≡ silence_after self.now now pulse.now }
     {
         let (vain, slack) = (self.vain_after(now, pulse), self.slack_after(now, pulse));
-        let times = self.kept_by(slack, self.hush_after(now, pulse));
-        self.limit_where(vain, times, pulse)
+        let least = self.limit_where(vain, slack.min(BEGINNING_SLACK), pulse);
+        if self.served && !pulse.passed {
+            least.max(self.limit_where(0, slack, pulse))
+        } else {
+            least
+        }
     }
 
     /// What it had voted for when its view began.
@@ -434,15 +408,6 @@ impl Watch {
         } else {
             0
         }
-    }
-
-    /// Whether nothing has been executed in its view for half of what that may last, and still isn't.
-    fn hushed_after(&self, now: u64, pulse: &Pulse) -> bool
-        ensures { result ≡ hushed_after self.now now pulse.now }
-    {
-        let half = self.silence_after(now, pulse) / 2;
-        let long = self.stuck_after(now, pulse) >= half;
-        !self.has_moved(pulse) && (self.hushed || long)
     }
 
     /// Whether it has lagged for so long while nothing was executed.
@@ -546,8 +511,6 @@ impl Watch {
             vain: self.vain_after(now, pulse),
             slack: self.slack_after(now, pulse),
             served: self.served_after(pulse),
-            hush: self.hush_after(now, pulse),
-            hushed: self.hushed_after(now, pulse),
             calm: self.calm_after(now, pulse),
         }
     }

@@ -69,6 +69,12 @@ impl<'s, 'a> Timed<'s, 'a> {
         are_in(view, &views, self.sights.config().quorum())
     }
 
+    /// Whether another one is in a later view, as its clock saw last.
+    fn is_passed(&self, view: View) -> bool {
+        let later = View(view.0.saturating_add(1));
+        are_in(later, &self.sights.views(), 1)
+    }
+
     /// What is seen of the replica.
     fn seen<R: Wait>(&self, rt: &R) -> Pulse {
         let guarded = self.station.lock(rt);
@@ -82,6 +88,7 @@ impl<'s, 'a> Timed<'s, 'a> {
             height: replica.height(),
             voted: replica.voted(),
             horizon: replica.horizon(),
+            passed: self.is_passed(replica.view()),
             stopped: guarded.stopped(),
         }
     }
