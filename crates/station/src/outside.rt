@@ -36,8 +36,11 @@ pub(crate) struct Outside<'s, 'a, P> {
 
 impl<P: Post> Outside<'_, '_, P> {
     /// Tells all others whose votes weren't right for the replica: who leads does without them, and the others' votes go to it,
-    /// too.
+    /// too. Not while it is behind: it couldn't vote in their place, and no quorum would be left.
     fn tell_doubt<R: Wait>(&self, rt: &R, voters: ReplicaSet) {
+        if !self.station.comeback().is_near(self.station.height(rt)) {
+            return;
+        }
         let own = self.station.number();
         for number in 0..self.post.config().n() {
             if number != own.0 {
