@@ -12,6 +12,12 @@ use Rattle.clock.specs.Watching.{borne_by, counted, is_calm, is_due, is_overdue,
 use Rattle.clock.specs.Watching.{limit_of, limit_where, moved, silence_after, slack_after, slow_after, stuck_after, vain_after}
 use Rattle.clock.specs.Laws.{Looks, watched, lagged, lagged_on, most_silent, silent, EndsSilences, IsEarned, IsGiven, IsOwed, IsPatient, IsSlack}
 
+-- a count that grew by three times the time is no more than three times all of it
+added-most : (count passed k most : ℕ) → count ≤ 3 * k → min (count + min (passed * 3) most) most ≤ 3 * (k + passed)
+added-most count passed k most h =
+    let a = min-le_left (count + min (passed * 3) most) most in
+    let b = min-le_left (passed * 3) most in omega (arith, a, b, h)
+
 -- three times the time is as much as the count, at most
 slow-most : (w : Watch) (now : ℕ) (p : Pulse) (k : ℕ) → w.slow ≤ 3 * k
     → slow_after w now p ≤ 3 * (k + (now - w.looked))
@@ -19,8 +25,7 @@ slow-most w now p k h =
     cond_both (not (p.view == w.view)) 0 _ (λ (n : ℕ). n ≤ 3 * (k + (now - w.looked)))
     (λ t. omega arith)
     (λ f. cond_both (lags w now p) _ _ (λ (n : ℕ). n ≤ 3 * (k + (now - w.looked)))
-    (λ t. (let a = min-le_left (w.slow + min ((now - w.looked) * 3) (2 ^ 64 - 1)) (2 ^ 64 - 1) in
-    let b = min-le_left ((now - w.looked) * 3) (2 ^ 64 - 1) in omega (arith, a, b, h)))
+    (λ t. added-most w.slow (now - w.looked) k (2 ^ 64 - 1) h)
     (λ t. omega (arith, h)))
 
 -- one look more, by what is found: a new view, a timeout that is due, and lagging; and what is left where it doesn't lag
@@ -30,9 +35,7 @@ slow-step : (new due lag : Bool) (slow passed k left kept most : ℕ) → slow �
 slow-step true true lag slow passed k left kept most h l = omega arith
 slow-step true false lag slow passed k left kept most h l = omega arith
 slow-step false true lag slow passed k left kept most h l = omega arith
-slow-step false false true slow passed k left kept most h l =
-    let a = min-le_left (slow + min (passed * 3) most) most in
-    let b = min-le_left (passed * 3) most in omega (arith, a, b, h)
+slow-step false false true slow passed k left kept most h l = added-most slow passed k most h
 slow-step false false false slow passed k left kept most h l = l
 
 -- what is remembered counts no more than three times the time that it lagged
@@ -58,8 +61,7 @@ stuck-silent config times (x ∷ earlier) =
 stuck-most : (w : Watch) (now : ℕ) (p : Pulse) (k : ℕ) → w.stuck ≤ 3 * k → stuck_after w now p ≤ 3 * (k + (now - w.looked))
 stuck-most w now p k h =
     cond_both (is_stuck w now p) _ 0 (λ (n : ℕ). n ≤ 3 * (k + (now - w.looked)))
-    (λ t. (let a = min-le_left (w.stuck + min ((now - w.looked) * 3) (2 ^ 64 - 1)) (2 ^ 64 - 1) in
-    let b = min-le_left ((now - w.looked) * 3) (2 ^ 64 - 1) in omega (arith, a, b, h)))
+    (λ t. added-most w.stuck (now - w.looked) k (2 ^ 64 - 1) h)
     (λ f. omega arith)
 
 pub is-earned : IsEarned
@@ -144,6 +146,14 @@ limit-most w vain times p =
     cond_both (is_spent p.view p.height p.voted) (limit / SPENT_PART) limit (λ (n : ℕ). n ≤ limit)
     (λ t. div-le_self limit SPENT_PART) (λ f. omega arith)
 
+-- a limit within three times the time is within the count that grew by it
+reached : (k count passed limit most : ℕ) → min (3 * k) most ≤ count → limit ≤ 3 * (k + passed) → limit ≤ most
+    → limit ≤ min (count + min (passed * 3) most) most
+reached k count passed limit most h within machine =
+    let sum : 3 * (k + passed) ≡ 3 * k + passed * 3 = omega arith in
+    le_trans (subst (λ (n : ℕ). limit ≤ min n most) sum (le-min {b = most} within machine))
+    (most-added (3 * k) (passed * 3) count most h)
+
 pub is-given : IsGiven
 is-given config times earlier now p same l h =
     let w = watched config times earlier in
@@ -151,14 +161,10 @@ is-given config times earlier now p same l h =
     let passed = now - w.looked in
     let seen : slow_after w now p ≡ min (w.slow + min (passed * 3) most) most =
     cond-false _ _ _ (not_from_true _ (eq-eqb _ _ same)) ∙ cond-true _ _ _ l in
-    let k = most-added (3 * lagged_on config times earlier) (passed * 3) w.slow most (slow-on config times earlier) in
     let machine = le_trans (limit-most w (vain_after w now p) (borne_by w (slack_after w now p)) p) (min-le_right _ most) in
-    let least = le-min {b = most} h machine in
-    let sum : 3 * (lagged_on config times earlier + passed) ≡ 3 * lagged_on config times earlier + passed * 3 =
-    omega arith in
     or_left _ _ (or_left _ _ (and_from _ _ l (le-leb _ _
     (subst (λ (n : ℕ). limit_after w now p ≤ n) (sym seen)
-    (le_trans (subst (λ (n : ℕ). limit_after w now p ≤ min n most) sum least) k)))))
+    (reached (lagged_on config times earlier) w.slow passed (limit_after w now p) most (slow-on config times earlier) h machine)))))
 
 pub is-patient : IsPatient
 unfolding watched
@@ -247,11 +253,9 @@ ends-silences config times earlier now p stuck h =
     let most = 2 ^ 64 - 1 in
     let passed = now - w.looked in
     let seen : stuck_after w now p ≡ min (w.stuck + min (passed * 3) most) most = cond-true _ _ _ stuck in
-    let k = most-added (3 * silent config times earlier) (passed * 3) w.stuck most (stuck-on config times earlier) in
     let part = silent-most w now p (slack-within w now p (is-owed config times earlier)) in
     let within = le_trans (le_trans part (min-le_left (most_silent w now p) most)) h in
-    let least = le-min {b = most} within (le_trans part (min-le_right (most_silent w now p) most)) in
-    let sum : 3 * (silent config times earlier + passed) ≡ 3 * silent config times earlier + passed * 3 = omega arith in
+    let machine = le_trans part (min-le_right (most_silent w now p) most) in
     or_left _ _ (or_right _ _ (and_from _ _ stuck (le-leb _ _
     (subst (λ (n : ℕ). silence_after w now p ≤ n) (sym seen)
-    (le_trans (subst (λ (n : ℕ). silence_after w now p ≤ min n most) sum least) k)))))
+    (reached (silent config times earlier) w.stuck passed (silence_after w now p) most (stuck-on config times earlier) within machine)))))
