@@ -1,7 +1,7 @@
 -- What always holds of the questions holds after each change.
 use Rattle.std.proofs.Common.{ℕ, ◌≡◌, ◌+◌, ◌<◌, ◌≤◌, ◌==◌, ◌&&◌, Bool, true, false, cond, not, List, [], ◌∷◌, ◌++◌}
 use Rattle.std.proofs.Common.{length, map, nat_lt, filter, get_or, set, refl, sym, ap, subst, ◌∙◌, arith}
-use Rattle.std.specs.Prelude.{count_by, sum_by, bytes_eq, None}
+use Rattle.std.specs.Prelude.{count_by, sum_by, bytes_eq, is_some, None}
 use Rattle.std.proofs.lemmas.Slice.Eq.{bytes_eq-Decides}
 use Rattle.std.proofs.lemmas.Bool.{cond_both, and_from, and_parts, leb-true, ltb-true, eqb-true, cond-true}
 use Rattle.std.proofs.lemmas.Bool.{cond-false, lt-ltb}
@@ -16,7 +16,7 @@ use Rattle.std.proofs.lemmas.List.Elements.{All-push, All-set, All-map, All-filt
 use Rattle.tuning.specs.declared.asking.TheConstants.{MOST_ASKED_FOR, MOST_COPY_BYTES, QUESTION_PACE}
 use Rattle.asking.specs.declared.block_copy.BlockCopy.{BlockCopy}
 use Rattle.asking.specs.Asking.{Asking, Pace, Question, AreDistinct, IsBounded, has_room, is_for, is_from, is_paid_by}
-use Rattle.asking.specs.Asking.{is_wanted, kept_for, released, size_of, waits_for, with_copy, closed, fits, hastened}
+use Rattle.asking.specs.Asking.{freed, is_wanted, kept_for, released, size_of, waits_for, with_copy, closed, fits, hastened}
 use Rattle.asking.specs.Asking.{why_no_copy}
 use Rattle.asking.proofs.Changing.{count-no, found-at, none-counted}
 
@@ -150,13 +150,16 @@ IsLike q r = (r.block ≡ q.block) × (r.payer ≡ q.payer) × (r.copies ≡ q.c
 
 pub hastened-like : (now : ℕ) (q : Question) → IsLike q (hastened now q)
 hastened-like now q =
-    cond_both (nat_le q.times 1) (record q { whom = None; due = now }) q (IsLike q) (λ t. (refl, refl, refl))
+    cond_both (nat_le q.times 1 && is_some q.whom) (record q { whom = None; due = now }) q (IsLike q) (λ t. (refl, refl, refl))
     (λ f. (refl, refl, refl))
 
 pub released-like : (block : List ℕ) (q : Question) → IsLike q (released block q)
 released-like block q =
     cond_both (waits_for block q) (record q { behind = None }) q (IsLike q) (λ t. (refl, refl, refl))
     (λ f. (refl, refl, refl))
+
+pub freed-like : (q : Question) → IsLike q (freed q)
+freed-like q = (refl, refl, refl)
 
 -- one is closed
 pub close-bounded : (a : Asking) (block : List ℕ) → IsBounded a

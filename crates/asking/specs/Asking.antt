@@ -3,15 +3,17 @@
 use Rattle.std.specs.Prelude.{ℕ, ◌≡◌, ◌==◌, ◌+◌, ◌-◌, ◌*◌, ◌/◌, ◌^◌, ◌<◌, ◌≤◌, ◌&&◌, ◌||◌, not, min, max, Bool, true, false}
 use Rattle.std.specs.Prelude.{List, [], ◌∷◌}
 use Rattle.std.specs.Prelude.{◌++◌, count_by, filter, find, length, map, sum_by, All, slice_get, Option, Some, None}
-use Rattle.std.specs.Prelude.{is_none}
+use Rattle.std.specs.Prelude.{is_none, is_some}
 use Rattle.std.specs.Prelude.{nat_lt, nat_le, bytes_eq, if◌then◌else◌}
 use Rattle.std.specs.Option.{option_and_then, option_map_or}
+use Rattle.std.specs.Prelude.{option_map}
 use Rattle.std.specs.List.{list_any}
 use Rattle.ids.specs.declared.fault.Fault.{Fault}
 use Rattle.ids.specs.declared.fault.Fault.TheVariants as fault
 use Rattle.asking.specs.declared.ask.Ask.{Ask}
 use Rattle.asking.specs.declared.block_copy.BlockCopy.{BlockCopy}
-use Rattle.tuning.specs.declared.asking.TheConstants.{MOST_ASKED_FOR, MOST_COPY_BYTES, MOST_QUESTION_PAUSE_MILLIS}
+use Rattle.tuning.specs.declared.asking.TheConstants.{MOST_ASK_AGAIN_MILLIS, MOST_ASKED_FOR, MOST_COPY_BYTES}
+use Rattle.tuning.specs.declared.asking.TheConstants.{MOST_ASKED_AHEAD, MOST_QUESTION_PAUSE_MILLIS}
 use Rattle.tuning.specs.declared.asking.TheConstants.{MOST_TIMES_ASKED, PAUSE_PART, QUESTION_PACE}
 use Rattle.tuning.specs.declared.asking.TheConstants.{QUESTION_PACE_MILLIS, QUESTION_PAUSE_MILLIS}
 
@@ -19,7 +21,7 @@ use Rattle.tuning.specs.declared.asking.TheConstants.{QUESTION_PACE_MILLIS, QUES
 pub record Question : Type 0 where
   pub block : List ℕ
   pub payer : ℕ  -- whose frame made the replica ask
-  pub whom : Option ℕ  -- whom the next question goes to; None for all
+  pub whom : Option ℕ  -- whom the first question goes to; None for all, as each later one
   pub times : ℕ  -- how often it was asked
   pub asked : Option ℕ  -- when it was asked first, while no answer came
   pub due : ℕ  -- when the next question may go out
@@ -103,20 +105,27 @@ later now millis = min (now + millis) (2 ^ 64 - 1)
 
 -- for how long the answer to a question is awaited that was asked so often: as many times as long as to the first one
 abbrev pub pause_of : (wait times : ℕ) → ℕ
-pause_of wait times = min (min (wait * times) (2 ^ 64 - 1)) MOST_QUESTION_PAUSE_MILLIS
+pause_of wait times = min (min (wait * times) (2 ^ 64 - 1)) MOST_ASK_AGAIN_MILLIS
 
--- a question was asked; the next one goes to all
+-- what is asked: at first who is named, then all
+abbrev pub ask_of : Question → Ask
+ask_of q = record {
+  block = q.block;
+  to = if nat_lt 0 q.times then None else q.whom;
+  is_again = nat_lt 0 q.times;
+}
+
+-- a question was asked
 abbrev pub asked_at : (now wait : ℕ) → Question → Question
 asked_at now wait q = record q {
-  whom = None;
   times = q.times + 1;
   asked = if q.times == 0 then Some now else q.asked;
   due = later now (pause_of wait (q.times + 1));
 }
 
--- what was asked once at most is asked of all at once
+-- what one was asked, or is to be asked first, is asked of all at once, unless it was
 abbrev pub hastened : (now : ℕ) → Question → Question
-hastened now q = if nat_le q.times 1 then record q { whom = None; due = now } else q
+hastened now q = if nat_le q.times 1 && is_some q.whom then record q { whom = None; due = now } else q
 
 -- an answer came, and waits for a block
 abbrev pub waiting_for : List ℕ → Question → Question
@@ -130,6 +139,14 @@ waits_for parent q = option_map_or (λ block. bytes_eq block parent) q.behind fa
 abbrev pub released : List ℕ → Question → Question
 released parent q = if waits_for parent q then record q { behind = None } else q
 
+-- its copies wait for no block any more
+abbrev pub freed : Question → Question
+freed q = record q { behind = None }
+
+-- nothing is wanted on a replica's account any more, and no copies wait: those on others' accounts may wait for one of these
+abbrev pub forgotten : (payer : ℕ) → List Question → List Question
+forgotten payer qs = map freed (filter (λ q. not (is_paid_by payer q)) qs)
+
 -- one copy more
 abbrev pub with_copy_of : (sender : ℕ) → (frame : List ℕ) → Question → Question
 with_copy_of sender frame q = record q { copies = with_copy sender frame q.copies }
@@ -142,6 +159,20 @@ closed block qs = map (released block) (filter (λ q. not (is_for block q)) qs)
 abbrev pub fits : (block : List ℕ) → (bytes : ℕ) → List Question → Bool
 fits block bytes qs =
     option_map_or (λ q. nat_le (kept_for q.payer qs + bytes) MOST_COPY_BYTES) (find (is_for block) qs) false
+
+-- Whether one may wait for the block below it: those that do take half of an account at most, so that copies of what comes
+-- next have room.
+abbrev pub may_wait : (block : List ℕ) → (bytes : ℕ) → List Question → Bool
+may_wait block bytes qs =
+    option_map_or (λ q. nat_le (kept_for q.payer qs + bytes) (MOST_COPY_BYTES / 2)) (find (is_for block) qs) false
+
+-- a replica's account has room for one more block of those that are asked for ahead
+abbrev pub has_room_ahead : (payer : ℕ) → List Question → Bool
+has_room_ahead payer qs = nat_lt (count_by (is_paid_by payer) qs) MOST_ASKED_AHEAD
+
+-- the first block whose copies wait for this one
+abbrev pub above : List ℕ → List Question → Option (List ℕ)
+above block qs = option_map (λ q. q.block) (find (waits_for block) qs)
 
 -- why a copy isn't kept, if for a reason: its block isn't wanted or its sender is no replica, or there is no room
 abbrev pub why_no_copy : Asking → (block : List ℕ) → (sender bytes : ℕ) → Option Fault
@@ -197,9 +228,13 @@ pub record IsNext (a : Asking) (now place : ℕ) (q : Question) : Type 0 where
 abbrev pub NoneDue : Asking → (now : ℕ) → Type 0
 NoneDue a now = (k : ℕ) (q : Question) → slice_get a.questions k ≡ Some q → is_due now q ≡ false
 
+-- for how many blocks questions may go out in the time that is counted, among n replicas: all of them may be asked
+abbrev pub blocks_among : (n : ℕ) → ℕ
+blocks_among n = QUESTION_PACE / n
+
 -- a question may go out: in the time that is counted there were few, or it is over
-abbrev pub allows : (now : ℕ) → Pace → Bool
-allows now pace = nat_le QUESTION_PACE_MILLIS (now - pace.since) || nat_lt pace.asked QUESTION_PACE
+abbrev pub allows : (most now : ℕ) → Pace → Bool
+allows most now pace = nat_le QUESTION_PACE_MILLIS (now - pace.since) || nat_lt pace.asked most
 
 -- one more went out
 abbrev pub counted : (now : ℕ) → Pace → Pace
@@ -227,11 +262,11 @@ taken now block a = record a {
 
 -- One question is asked: the next one, of whom it says. The turn is that of the replica behind its payer.
 pub record Asks (old : Asking) (now : ℕ) (ask : Ask) (new : Asking) : Type 0 where
-  pub allowed : allows now old.pace ≡ true
+  pub allowed : allows (blocks_among old.replicas) now old.pace ≡ true
   pub place : ℕ
   pub question : Question
   pub next : IsNext old now place question
-  pub ask_is : ask ≡ record { block = question.block; to = question.whom }
+  pub ask_is : ask ≡ ask_of question
   pub is : new ≡ record old {
     questions = changed question.block (asked_at now old.pace.wait) old.questions;
     turn = one_behind old.replicas question.payer;

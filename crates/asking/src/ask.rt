@@ -7,4 +7,6 @@ use ids::{Digest, ReplicaId};
 pub struct Ask {
     pub block: Digest,
     pub to: Option<ReplicaId>,
+    /// Whether it was asked before.
+    pub is_again: bool,
 }

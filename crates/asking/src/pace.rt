@@ -1,7 +1,7 @@
 //! How many questions may go out, and how long answers are awaited.
 
-ghost use Rattle.std.specs.Prelude.{◌≡◌, ◌≤◌, ◌-◌, nat_le, IsTrue};
-ghost use Rattle.asking.specs.Asking.{allows, counted, wait_after};
+ghost use Rattle.std.specs.Prelude.{◌≡◌, ◌≤◌, ◌<◌, ◌-◌, nat_le, IsTrue};
+ghost use Rattle.asking.specs.Asking.{allows, blocks_among, counted, wait_after};
 ghost use Rattle.tuning.specs.declared.asking.TheConstants.{QUESTION_PACE, QUESTION_PACE_MILLIS, QUESTION_PAUSE_MILLIS};
 
 use std::marker::Model;
@@ -45,6 +45,15 @@ impl Model for Pace {
     ghost inverse = { λ pace. record { since = pace.since; asked = pace.asked; wait = pace.wait } };
 }
 
+/// For how many blocks questions may go out in the time that is counted, where each is asked of so many replicas.
+pub(crate) fn blocks_among(replicas: u8) -> u64
+    requires { 0 < replicas }
+    ensures blocks { result ≡ blocks_among replicas }
+    ensures few { result ≤ QUESTION_PACE }
+{
+    QUESTION_PACE / u64::from(replicas)
+}
+
 impl Pace {
     /// None went out.
     pub(crate) fn new() -> Pace
@@ -78,17 +87,18 @@ impl Pace {
         now.saturating_sub(self.since) >= QUESTION_PACE_MILLIS
     }
 
-    /// Whether a question may go out.
-    pub(crate) fn allows(&self, now: u64) -> bool
-        ensures allows { result ≡ allows now self.now }
+    /// Whether a question may go out, where so many may in the time that is counted.
+    pub(crate) fn allows(&self, most: u64, now: u64) -> bool
+        ensures allows { result ≡ allows most now self.now }
         ensures few { self.now.asked ≤ QUESTION_PACE }
     {
-        self.is_over(now) || self.asked < QUESTION_PACE
+        self.is_over(now) || self.asked < most
     }
 
     /// One more went out.
-    pub(crate) fn count(&mut self, now: u64)
-        requires { IsTrue (allows now self.old) }
+    pub(crate) fn count(&mut self, most: u64, now: u64)
+        requires allows { IsTrue (allows most now self.old) }
+        requires few { most ≤ QUESTION_PACE }
         ensures counted { self.new ≡ counted now self.old }
         ensures few { self.new.asked ≤ QUESTION_PACE }
     {

@@ -2,7 +2,7 @@
 
 ghost use Rattle.std.specs.Prelude.{◌≡◌, ◌+◌, ◌-◌, ◌<◌, ◌≤◌, ◌^◌, ◌*◌, ◌&&◌, ◌==◌, count_by, IfOk, OnErr, OnOk, length};
 ghost use Rattle.std.specs.Prelude.{not, filter, nat_lt, nat_le};
-ghost use Rattle.asking.specs.Asking.{asked_at, hastened, is_due, is_for, is_from, is_vain, later, new_question};
+ghost use Rattle.asking.specs.Asking.{ask_of, asked_at, freed, hastened, is_due, is_for, is_from, is_vain, later, new_question};
 ghost use Rattle.asking.specs.Asking.{pause_of, released, size_of, waiting_for, waits_for, with_copy_of};
 ghost use Rattle.tuning.specs.declared.asking.TheConstants.{MOST_COPY_BYTES, MOST_TIMES_ASKED};
 
@@ -12,7 +12,7 @@ use bytes::Bytes;
 use ids::{Digest, ReplicaId};
 use std::alloc::{AllocError, Global};
 use std::marker::Model;
-use tuning::{MOST_QUESTION_PAUSE_MILLIS, MOST_TIMES_ASKED};
+use tuning::{MOST_ASK_AGAIN_MILLIS, MOST_TIMES_ASKED};
 
 /// A block that lacks.
 #[derive(Drop)]
@@ -20,7 +20,7 @@ pub(crate) struct Question {
     block: Digest,
     /// Whose frame made the replica ask.
     payer: ReplicaId,
-    /// Whom the next question goes to. None: to all.
+    /// Whom the first question goes to. None: to all, as each later one.
     whom: Option<ReplicaId>,
     /// How often it was asked.
     times: u8,
@@ -66,7 +66,7 @@ fn pause_of(wait: u64, times: u8) -> u64
     ensures { result ≡ pause_of wait times }
 {
     wait.saturating_mul(u64::from(times))
-        .min(MOST_QUESTION_PAUSE_MILLIS)
+        .min(MOST_ASK_AGAIN_MILLIS)
 }
 
 impl Question {
@@ -151,27 +151,28 @@ impl Question {
     /// Asks. The answer to the first question is awaited for so many milliseconds.
     pub(crate) fn ask(&mut self, now: u64, wait: u64) -> Ask
         requires { self.old.times < MOST_TIMES_ASKED }
-        ensures ask { result ≡ record { block = self.old.block; to = self.old.whom } }
+        ensures ask { result ≡ ask_of self.old }
         ensures asked { self.new ≡ asked_at now wait self.old }
     {
+        let is_again = self.times > 0;
         let ask = Ask {
             block: self.block,
-            to: self.whom,
+            to: if is_again { None } else { self.whom },
+            is_again,
         };
-        if self.times == 0 {
+        if !is_again {
             self.asked = Some(now);
         }
-        self.whom = None;
         self.times += 1;
         self.due = later(now, pause_of(wait, self.times));
         ask
     }
 
-    /// All are to be asked at once, where it was asked once at most.
+    /// All are to be asked at once, where one was asked or is to be asked first, and all weren't.
     pub(crate) fn hasten(&mut self, now: u64)
         ensures { self.new ≡ hastened now self.old }
     {
-        if self.times <= 1 {
+        if self.times <= 1 && self.whom.is_some() {
             self.whom = None;
             self.due = now;
         }
@@ -202,6 +203,13 @@ impl Question {
         if self.waits_for(parent) {
             self.behind = None;
         }
+    }
+
+    /// They wait for no block any more.
+    pub(crate) fn free(&mut self)
+        ensures { self.new ≡ freed self.old }
+    {
+        self.behind = None;
     }
 
     /// How many bytes the copies have, which are few.

@@ -8,7 +8,8 @@ ghost use Rattle.std.specs.Prelude.{is_some, nat_lt, slice_get, if◌then◌else
 ghost use Rattle.std.specs.Option.{option_map_or};
 ghost use Rattle.std.specs.List.{list_any};
 ghost use Rattle.ids.specs.Sizes.{replicas};
-ghost use Rattle.asking.specs.Asking.{Question, Asks, IsBounded, NoneDue, allows, asked_for, changed, closed, fits, given_up};
+ghost use Rattle.asking.specs.Asking.{Question, Asks, IsBounded, NoneDue, above, allows, asked_for, blocks_among, changed, closed};
+ghost use Rattle.asking.specs.Asking.{fits, forgotten, freed, given_up, has_room_ahead, may_wait};
 ghost use Rattle.asking.specs.Asking.{has_room, hastened, having_given_up, is_due, is_for, is_paid_by, is_vain};
 ghost use Rattle.asking.specs.Asking.{is_wanted, kept_for, needing, one_behind, places_behind, released, waiting_for};
 ghost use Rattle.asking.specs.Asking.{taken, waits_for, why_no_copy, with_copy_of};
@@ -17,13 +18,13 @@ ghost use Rattle.tuning.specs.declared.asking.TheConstants.{MOST_COPY_BYTES, QUE
 
 use crate::ask::Ask;
 use crate::block_copy::BlockCopy;
-use crate::pace::Pace;
+use crate::pace::{Pace, blocks_among};
 use crate::question::Question;
 use bytes::Bytes;
 use ids::{Config, Digest, Fault, ReplicaId};
 use std::alloc::Global;
 use std::marker::Model;
-use tuning::{MOST_ASKED_FOR, MOST_COPY_BYTES};
+use tuning::{MOST_ASKED_AHEAD, MOST_ASKED_FOR, MOST_COPY_BYTES};
 
 /// The blocks that one replica asks others for.
 ///
@@ -226,6 +227,39 @@ impl Questions {
         }
     }
 
+    /// Whether a copy of a block of so many bytes may wait for the block below it: those that do take half of an account at
+    /// most.
+    pub fn may_wait(&self, block: &Digest, bytes: usize) -> bool
+        ensures { result ≡ may_wait block.now bytes self.now.questions }
+    {
+        let most = MOST_COPY_BYTES / 2;
+        match self.question(block) {
+            Some(question) => {
+                let kept = self.kept_for(question.payer());
+                kept <= most && bytes <= most - kept
+            }
+            None => false,
+        }
+    }
+
+    /// Whether a replica's account has room for one more block of those that are asked for ahead, from what others recorded.
+    pub fn has_room_ahead(&self, payer: ReplicaId) -> bool
+        ensures { result ≡ has_room_ahead payer self.now.questions }
+    {
+        self.count_of(payer) < MOST_ASKED_AHEAD
+    }
+
+    /// The first block whose copies wait for this one.
+    pub fn above(&self, block: &Digest) -> Option<Digest>
+        ensures { result ≡ above block.now self.now.questions }
+    {
+        let question = self
+            .questions
+            .iter()
+            .find(|question| question.waits_for(block))?;
+        Some(question.block())
+    }
+
     /// The place of the question for a block, of which one more copy of so many bytes may be kept.
     fn place_to_keep(&self, block: &Digest, sender: ReplicaId, bytes: usize) -> Result<usize, Fault>
         ensures place { IfOk result (λ place. position (is_for block.now) self.now.questions ≡ Some place) }
@@ -293,6 +327,36 @@ impl Questions {
         self.release_all(block);
     }
 
+    /// Takes the questions on a replica's account out.
+    fn take_out_of(&mut self, payer: ReplicaId)
+        ensures { self.new ≡ record self.old {
+          questions = filter (λ q. not (is_paid_by payer q)) self.old.questions;
+        } }
+    {
+        self.questions.retain(
+            |question: &Question| -> bool
+                ensures { result ≡ not (is_paid_by payer question.now) }
+            { question.payer() != payer },
+        );
+    }
+
+    /// Nothing waits any more.
+    fn free_all(&mut self)
+        ensures { self.new ≡ record self.old { questions = map freed self.old.questions } }
+    {
+        for question in self.questions.iter_mut() {
+            question.free();
+        }
+    }
+
+    /// Nothing is wanted on a replica's account any more. No copies wait: those on others' accounts may wait for one of these.
+    pub fn forget(&mut self, payer: ReplicaId)
+        ensures { self.new ≡ record self.old { questions = forgotten payer self.old.questions } }
+    {
+        self.take_out_of(payer);
+        self.free_all();
+    }
+
     /// When a block was asked for first, while no answer came.
     fn asked_for(&self, block: &Digest) -> Option<u64>
         ensures { result ≡ asked_for block.now self.now.questions }
@@ -340,7 +404,7 @@ impl Questions {
         }
     }
 
-    /// All others are asked for a block at once, where it was asked for once at most: no copy that came was right.
+    /// All others are asked for a block at once, where one was asked for it, or is to be first: no copy that came was right.
     pub fn hasten(&mut self, block: &Digest, now: u64)
         ensures { self.new ≡ record self.old { questions = changed block.now (hastened now) self.old.questions } }
     {
@@ -408,14 +472,15 @@ impl Questions {
     fn ask(&mut self, now: u64) -> Option<Ask>
         ensures asks { IfSome result (λ ask. Asks self.old now ask self.new) }
         ensures none { IfNone result ((self.new ≡ self.old)
-            × ((allows now self.old.pace ≡ false) ⊎ NoneDue self.old now)) }
+            × ((allows (blocks_among self.old.replicas) now self.old.pace ≡ false) ⊎ NoneDue self.old now)) }
     {
-        if !self.pace.allows(now) {
+        let most = blocks_among(self.replicas);
+        if !self.pace.allows(most, now) {
             return None;
         }
         let place = self.next_place(now)?;
         let wait = self.pace.wait();
-        self.pace.count(now);
+        self.pace.count(most, now);
         self.turn = one_behind(self.replicas, self.questions[place].payer());
         Some(self.questions[place].ask(now, wait))
     }
@@ -425,7 +490,7 @@ impl Questions {
     pub fn next(&mut self, now: u64) -> Option<Ask>
         ensures asks { IfSome result (λ ask. Asks (having_given_up now self.old) now ask self.new) }
         ensures none { IfNone result ((self.new ≡ having_given_up now self.old)
-            × ((allows now self.old.pace ≡ false) ⊎ NoneDue self.new now)) }
+            × ((allows (blocks_among self.old.replicas) now self.old.pace ≡ false) ⊎ NoneDue self.new now)) }
     {
         self.give_up(now);
         self.ask(now)

@@ -1,6 +1,6 @@
 -- What is given in a row is counted.
-use Rattle.std.proofs.Common.{ℕ, ◌≡◌, ◌+◌, ◌-◌, ◌≤◌, Bool, true, false, cond, List, [], ◌∷◌, refl, arith, max, sum_by}
-use Rattle.std.specs.Prelude.{Option, None, Some, is_some}
+use Rattle.std.proofs.Common.{ℕ, ◌≡◌, ◌+◌, ◌≤◌, true, List, [], ◌∷◌, arith, max, sum_by}
+use Rattle.std.specs.Prelude.{Some, is_some}
 use Rattle.std.proofs.lemmas.List.Sums.{sum_by-cons}
 use Rattle.catching_up.specs.Giving.{counted_until}
 use Rattle.catching_up.specs.Laws.{Given, GivenInARow, LittleIsGiven}

@@ -1,5 +1,5 @@
 -- What the turns and the numbers that were told are for.
-use Rattle.std.specs.Prelude.{ℕ, ◌≡◌, ◌≢◌, ◌+◌, ◌-◌, ◌<◌, ◌≤◌, Bool, false, true, List, [], ◌∷◌, Any, Contains, Option, Some, count_by, is_some, length, nat_le, sum_by}
+use Rattle.std.specs.Prelude.{ℕ, ◌≡◌, ◌≢◌, ◌+◌, ◌-◌, ◌<◌, ◌≤◌, Bool, false, true, List, [], ◌∷◌, Any, Contains, Some, count_by, is_some, length, nat_le, sum_by}
 use Rattle.catching_up.specs.Giving.{counted_until}
 use Rattle.catching_up.specs.States.{CatchingUp, IsSound, asked, is_due, stays, whom}
 

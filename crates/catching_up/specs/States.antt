@@ -159,15 +159,20 @@ served now s = record s {
 }
 
 -- it came to its end in vain: it may have been too short
-abbrev pub unserved : CatchingUp → CatchingUp
-unserved s = record s { from = None; is_served = false; bytes = doubled s.pace.most_bytes s.bytes }
+abbrev pub unserved : (now : ℕ) → CatchingUp → CatchingUp
+unserved now s = record s {
+  from = None;
+  is_served = false;
+  wait = wait_behind (now - s.asked) s.pace;
+  bytes = doubled s.pace.most_bytes s.bytes;
+}
 
 -- it served, where the height that it was asked from was executed by then
 abbrev pub after_answer : (now : ℕ) → Question → CatchingUp → CatchingUp
 after_answer now question s =
     if not (is_awaited question s) then s
     else if nat_le question.from s.height then served now s
-    else unserved s
+    else unserved now s
 
 -- ---- what always holds
 

@@ -338,11 +338,13 @@ impl CatchingUp {
     }
 
     /// It came to its end, and brought nothing new: it may have been too short.
-    fn fail(&mut self)
-        ensures { self.new ≡ unserved self.old }
+    fn fail(&mut self, now: u64)
+        ensures { self.new ≡ unserved now self.old }
     {
+        let took = now.saturating_sub(self.asked);
         self.from = None;
         self.is_served = false;
+        self.wait = wait_behind(took, &self.pace);
         self.bytes = doubled(self.pace.most_bytes, self.bytes);
     }
 
@@ -358,7 +360,7 @@ impl CatchingUp {
         if self.height.0 >= question.from.0 {
             self.serve(now);
         } else {
-            self.fail();
+            self.fail(now);
         }
     }
 }

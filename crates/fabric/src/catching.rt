@@ -11,8 +11,10 @@ use admission::missing_of;
 use bytes::Bytes;
 use frames_view::Frame;
 use ids::{Fault, Height, ReplicaId};
+use std::collections::VecDeque;
 use std::sync::Wait;
 use std::time::Clock;
+use tuning::MOST_ASKED_AHEAD;
 use turns::{Gate, Share, Steps};
 
 impl<'a, G: Gate, O: Outgoing + Questioned + Recording> Worker<'a, G, O> {
@@ -79,6 +81,9 @@ impl<'a, G: Gate, O: Outgoing + Questioned + Recording> Worker<'a, G, O> {
             };
             match self.bring_recorded(rt, steps, share, &arrived) {
                 Err(Fault::UnknownParent) => {
+                    if is_one_out {
+                        self.out.forget(rt, giver);
+                    }
                     self.need_parent(rt, giver, &arrived);
                     if is_one_out {
                         self.need_blocks(rt, giver, &frames, arrived.height());
@@ -107,7 +112,8 @@ impl<'a, G: Gate, O: Outgoing + Questioned + Recording> Worker<'a, G, O> {
         Ok(())
     }
 
-    /// All are asked for the blocks of frames from a height on, on the account of who gave them, as far as that has room.
+    /// All are asked for the blocks of frames from a height on, on the account of who gave them: now as far as that has room, then
+    /// as others come.
     fn need_blocks<R: Wait + Clock>(
         &self,
         rt: &R,
@@ -116,21 +122,32 @@ impl<'a, G: Gate, O: Outgoing + Questioned + Recording> Worker<'a, G, O> {
         from: Height,
     ) {
         let config = self.keyring.config();
+        let mut blocks = VecDeque::new(self.alloc);
         for bytes in frames {
             let Some(arrived) = Arrived::new(&config, OWN, bytes) else {
                 continue;
             };
-            if arrived.height().0 >= from.0 && !self.need_block(rt, giver, &arrived) {
-                break;
+            if arrived.height().0 < from.0 {
+                continue;
+            }
+            if let Some(block) = arrived.carried().block() {
+                let _refused = blocks.push_back(block);
             }
         }
+        self.room.ask_next(rt, giver, blocks);
+        self.need_ahead(rt);
     }
 
-    /// All are asked for the block that a frame brings, if it brings one. Whether its giver's account has room.
-    fn need_block<R: Wait + Clock>(&self, rt: &R, giver: ReplicaId, arrived: &Arrived<'_>) -> bool {
-        match arrived.carried().block() {
-            Some(block) => self.out.need_now(rt, block, giver),
-            None => true,
+    /// All are asked for the blocks that come next, as far as the account of who gave their frames has room.
+    pub(crate) fn need_ahead<R: Wait + Clock>(&self, rt: &R) {
+        for _ in 0..MOST_ASKED_AHEAD {
+            let Some((giver, block)) = self.room.next_ahead(rt) else {
+                break;
+            };
+            if !self.out.need_ahead(rt, block, giver) {
+                self.room.put_back(rt, giver, block);
+                break;
+            }
         }
     }
 

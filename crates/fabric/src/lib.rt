@@ -2,10 +2,12 @@
 //! frames to replicas.
 #![tactic(auto)]
 
+mod ahead;
 mod arrived;
 mod catching;
 mod client_end;
 mod client_links;
+mod copying;
 mod inbox;
 mod laws;
 mod links;
@@ -32,7 +34,7 @@ pub use laws::link_is_served;
 pub use links::{Ends, Links, is_request};
 pub use parcel::{Answer, Base, Parcel};
 pub use post::{Post, Requests};
-pub use questioned::Questioned;
+pub use questioned::{Copies, CopyUse, Questioned};
 pub use recording::Recording;
 pub use rows::Sender;
 pub use waiting::WaitingRoom;

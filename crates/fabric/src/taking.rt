@@ -3,7 +3,7 @@
 ghost use Rattle.fabric.specs.Shares.{HasGrown};
 
 use crate::arrived::Arrived;
-use crate::questioned::Questioned;
+use crate::questioned::{Copies, Questioned};
 use crate::recording::Recording;
 use crate::unfounded::Unfounded;
 use crate::waiting::{Carried, Waiting};
@@ -14,11 +14,10 @@ use bytes::Bytes;
 use frames_view::{Frame, read};
 use ids::{Config, Digest, Fault, Kind, ReplicaId};
 use signed_frames::Out;
-use std::alloc::{AllocError, Global};
 use std::sync::Wait;
 use std::time::Clock;
 use tuning::MOST_ASKED_FOR;
-use turns::{Gate, Share, Steps, gather, offer, turn};
+use turns::{Gate, Share, Steps, offer, turn};
 
 /// For which block a step votes, if for one.
 fn voted_for(config: &Config, out: &Out) -> Option<Digest> {
@@ -30,15 +29,6 @@ fn voted_for(config: &Config, out: &Out) -> Option<Digest> {
         Ok(Frame::Vote(vote)) => Some(Digest(*vote.digest())),
         _ => None,
     }
-}
-
-/// The bytes of frames.
-fn slices<'b>(alloc: Global, frames: &'b [Bytes]) -> Result<Vec<&'b [u8]>, AllocError> {
-    let mut slices = Vec::new(alloc);
-    for frame in frames {
-        slices.push(frame.as_slice())?;
-    }
-    Ok(slices)
 }
 
 impl<'a, G: Gate, O: Outgoing + Questioned + Recording> Worker<'a, G, O> {
@@ -177,9 +167,13 @@ impl<'a, G: Gate, O: Outgoing + Questioned + Recording> Worker<'a, G, O> {
 
     /// All are asked for a block of this sender's that has no grounds, and for those that wait above it: they may have none either
     /// when it comes, and one question behind another's answer brings less than leaders propose. Where the block was asked for
-    /// before, these were, too.
+    /// before, these were, too. Who is far behind asks for that alone, at once: it asks for the others by what was recorded.
     fn need_from<R: Wait + Clock>(&self, rt: &R, block: Digest, sender: ReplicaId) {
         if self.out.wants(rt, &block) {
+            return;
+        }
+        if self.out.reach().is_some() {
+            let _full = self.out.need_now(rt, block, sender);
             return;
         }
         let mut next = Some(block);
@@ -192,49 +186,60 @@ impl<'a, G: Gate, O: Outgoing + Questioned + Recording> Worker<'a, G, O> {
         }
     }
 
-    /// Copies of one block come together.
-    fn gather<R: Wait, S: Steps>(
-        &mut self,
-        rt: &R,
-        steps: &mut S,
-        share: &mut Share,
-        copies: Vec<Bytes>,
-    ) -> Result<Worth, Fault>
-        ensures { HasGrown share.old share.new }
-    {
-        let frames = slices(self.alloc, &copies)?;
-        let out = gather(rt, steps, share, self.keyring.verifying(), &frames)?;
-        self.send_all(rt, out);
-        Ok(Worth::OfUse)
+    /// Whether a waiting frame brings a block that was asked for, by a replica that is far behind: it comes by copies.
+    fn comes_by_copies<R: Wait>(&self, rt: &R, frame: &Waiting) -> bool {
+        match (frame.brings.block(), self.out.reach()) {
+            (Some(block), Some(_reach)) => self.out.wants(rt, &block),
+            _ => false,
+        }
     }
 
-    /// Brings the frames that lack this block, which the replica has by now, and those that lack a
-    /// block that one of them brought. Those for which memory is refused are lost, as on any network.
-    fn release<R: Wait + Clock, S: Steps>(
+    /// Notes a block for whose sake frames wait. Where memory is refused they are lost, as on any network.
+    fn note_known<R: Wait>(&self, rt: &R, known: &mut Vec<Digest>, block: Option<Digest>) {
+        if let Some(block) = block {
+            if known.push(block).is_err() {
+                self.room.lose_for(rt, &block);
+            }
+        }
+    }
+
+    /// Brings what waited for this block, which the replica has by now: the copies of one above it; the frames that lack it; and
+    /// what waited for a block that came so. Those for which memory is refused are lost, as on any network.
+    pub(crate) fn release<R: Wait + Clock, S: Steps>(
         &mut self,
         rt: &R,
         steps: &mut S,
         share: &mut Share,
         block: Digest,
+        copies: Option<Copies>,
     )
         ensures { HasGrown share.old share.new }
     {
         let mut known = Vec::new(self.alloc);
-        let mut latest = Some(block);
+        let (mut latest, mut above) = (Some(block), copies);
         for _ in rt.forever() {
+            if let Some(Copies { block, frames }) = above.take() {
+                if self.take_copies(rt, steps, share, frames) {
+                    self.note_known(rt, &mut known, latest);
+                    latest = Some(block);
+                    above = self.has_taken(rt, latest.as_ref());
+                }
+                continue;
+            }
             let Some(block) = latest.take().or_else(|| known.pop()) else {
                 break;
             };
             let Some(frame) = self.room.take_for(rt, &block) else {
                 continue;
             };
-            if known.push(block).is_err() {
-                self.room.lose_for(rt, &block);
+            self.note_known(rt, &mut known, Some(block));
+            if self.comes_by_copies(rt, &frame) {
+                continue;
             }
             let brought = self.bring_bytes(rt, steps, share, frame.number, &frame.bytes);
             if brought.is_ok() {
                 latest = frame.brings.block();
-                self.has_taken(rt, latest.as_ref());
+                above = self.has_taken(rt, latest.as_ref());
             }
         }
     }
@@ -286,7 +291,8 @@ impl<'a, G: Gate, O: Outgoing + Questioned + Recording> Worker<'a, G, O> {
         }
         let _copy = self.room.take_number(rt, arrived.frame.number);
         if let (Ok(_), Some(block)) = (brought, brings) {
-            self.release(rt, steps, share, block);
+            let above = self.has_taken(rt, Some(&block));
+            self.release(rt, steps, share, block, above);
         }
     }
 
@@ -368,6 +374,9 @@ impl<'a, G: Gate, O: Outgoing + Questioned + Recording> Worker<'a, G, O> {
         {
             return Worth::OfUse;
         }
+        if let Some(worth) = self.take_copy(rt, steps, share, arrived) {
+            return worth;
+        }
         match self.bring(rt, steps, share, arrived) {
             Ok(worth) => {
                 self.taken(rt, steps, share, arrived);
@@ -397,18 +406,28 @@ impl<'a, G: Gate, O: Outgoing + Questioned + Recording> Worker<'a, G, O> {
             return;
         }
         let block = arrived.carried().block();
-        self.has_taken(rt, block.as_ref());
+        let above = self.has_taken(rt, block.as_ref());
         if let Some(block) = block {
-            self.release(rt, steps, share, block);
+            self.release(rt, steps, share, block, above);
         }
     }
 
-    /// A frame was taken that brings this block, if any: it isn't asked for any more.
-    fn has_taken<R: Wait + Clock>(&self, rt: &R, block: Option<&Digest>) {
+    /// A frame was taken that brings this block, if any: it isn't asked for any more. The copies of a block that waited for it, if
+    /// of one.
+    pub(crate) fn has_taken<R: Wait + Clock>(
+        &self,
+        rt: &R,
+        block: Option<&Digest>,
+    ) -> Option<Copies> {
         self.room.has_news();
-        if let (true, Some(block)) = (self.asks(), block) {
-            self.out.close(rt, block);
+        if !self.asks() {
+            return None;
         }
+        let above = self.out.close(rt, self.alloc, block?);
+        if self.out.reach().is_some() {
+            self.need_ahead(rt);
+        }
+        above
     }
 
     /// Whether a frame is a proposal of another view than the replica's, and than the next: the view was seen at the last look.

@@ -1,5 +1,6 @@
 //! Frames that wait for a block.
 
+use crate::ahead::Ahead;
 use crate::arrived::Arrived;
 use crate::queue::{Question, Queue};
 use crate::requests::{Again, Entry, Requests};
@@ -9,6 +10,7 @@ use bytes::Bytes;
 use frames_view::Frame;
 use ids::{ClientId, Config, Digest, ReplicaId, Seq};
 use std::alloc::Global;
+use std::collections::VecDeque;
 use std::sync::atomic::Ordering::SeqCst;
 use std::sync::atomic::{AtomicBool, AtomicU64};
 use std::sync::{Mutex, Wait};
@@ -123,6 +125,7 @@ pub struct WaitingRoom {
     is_wary: AtomicBool,
     /// How many questions for requests are kept.
     questions: AtomicU64,
+    ahead: Mutex<Ahead>,
 }
 
 impl WaitingRoom {
@@ -142,6 +145,7 @@ impl WaitingRoom {
             suspects_any: AtomicBool::new(false),
             is_wary: AtomicBool::new(false),
             questions: AtomicU64::new(0),
+            ahead: Mutex::new(Ahead::none(alloc)),
         }
     }
 
@@ -227,6 +231,21 @@ impl WaitingRoom {
     /// Whether nothing waits.
     pub(crate) fn is_empty(&self) -> bool {
         self.waiting.load(SeqCst) == 0
+    }
+
+    /// These blocks are to be asked for next, on the account of who gave their frames, and no others any more.
+    pub(crate) fn ask_next<R: Wait>(&self, rt: &R, giver: ReplicaId, blocks: VecDeque<Digest>) {
+        self.ahead.lock(rt).begin(giver, blocks);
+    }
+
+    /// The block that is to be asked for next, if one is, and on whose account.
+    pub(crate) fn next_ahead<R: Wait>(&self, rt: &R) -> Option<(ReplicaId, Digest)> {
+        self.ahead.lock(rt).next()
+    }
+
+    /// It comes next again.
+    pub(crate) fn put_back<R: Wait>(&self, rt: &R, giver: ReplicaId, block: Digest) {
+        self.ahead.lock(rt).put_back(giver, block);
     }
 
     /// How many frames were taken that may give grounds to a proposal.

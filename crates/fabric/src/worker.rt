@@ -270,20 +270,30 @@ impl<'a, G: Gate, O: Outgoing + Questioned + Recording> Worker<'a, G, O> {
     /// Asks for blocks that lack since a frame had no grounds, as far as questions are due.
     fn ask<R: Wait + Clock>(&self, rt: &R) {
         for _ in 0..QUESTION_PACE {
-            let Some(Ask { block, to }) = self.out.next(rt) else {
+            let Some(
+                Ask {
+                    block,
+                    to,
+                    is_again,
+                },
+            ) = self.out.next(rt)
+            else {
                 break;
             };
             match to {
                 Some(to) => self.ask_one(rt, to, &block),
-                None => self.ask_all(rt, &block),
+                None => self.ask_all(rt, &block, is_again),
             }
         }
     }
 
-    /// Asks all others for a block.
-    fn ask_all<R: Wait>(&self, rt: &R, block: &Digest) {
-        for to in 0..self.keyring.config().n() {
-            self.ask_one(rt, ReplicaId(to), block);
+    /// Asks all others for a block; the first time not those whose votes weren't right for it.
+    fn ask_all<R: Wait>(&self, rt: &R, block: &Digest, is_again: bool) {
+        for number in 0..self.keyring.config().n() {
+            let to = ReplicaId(number);
+            if is_again || !self.out.passes_over(rt, to) {
+                self.ask_one(rt, to, block);
+            }
         }
     }
 

@@ -10,8 +10,8 @@ use std::sync::atomic::Ordering::SeqCst;
 use std::sync::atomic::{AtomicBool, AtomicU64};
 use std::sync::{Mutex, Wait};
 use tuning::{
-    AWAY_HEIGHTS, CATCH_UP_BYTES, CATCH_UP_PAUSE_MILLIS, CATCH_UP_TURN_MILLIS, MOST_CATCH_UP_BYTES,
-    MOST_CATCH_UP_PAUSE_MILLIS, MOST_WAITING_FRAMES, NEAR_HEIGHTS,
+    AWAY_HEIGHTS, CATCH_UP_BYTES, CATCH_UP_PAUSE_MILLIS, CATCH_UP_TURN_MILLIS, LOOK_MILLIS,
+    MOST_CATCH_UP_BYTES, MOST_CATCH_UP_PAUSE_MILLIS, NEAR_HEIGHTS, STILL_HEIGHTS, STILL_MILLIS,
 };
 
 /// How fast it asks.
@@ -41,6 +41,8 @@ pub(crate) struct Comeback {
     state: Mutex<CatchingUp>,
     /// The height that more than f others had executed when its clock looked last.
     foremost: AtomicU64,
+    /// How often its clock has looked since that changed.
+    still: AtomicU64,
     is_away: AtomicBool,
     /// Up to which height frames are of use to it while it is far behind.
     reach: AtomicU64,
@@ -57,6 +59,7 @@ impl Comeback {
             faults: config.faults(),
             state: Mutex::new(CatchingUp::new(config, own, pace())),
             foremost: AtomicU64::new(0),
+            still: AtomicU64::new(0),
             is_away: AtomicBool::new(false),
             reach: AtomicU64::new(0),
             is_prompted: AtomicBool::new(false),
@@ -65,19 +68,39 @@ impl Comeback {
 
     /// Whether it is far behind is told, with the height that it has executed.
     fn tell(&self, height: Height, is_away: bool) {
-        let reach = height.0.saturating_add(MOST_WAITING_FRAMES as u64);
+        let reach = height.0.saturating_add(AWAY_HEIGHTS);
         self.reach.store(reach, SeqCst);
         self.is_away.store(is_away, SeqCst);
+    }
+
+    /// Its clock sees the height that more than f others have executed.
+    fn note_foremost(&self, foremost: Height) {
+        let is_still = self.foremost.swap(foremost.0, SeqCst) == foremost.0;
+        let looks = self.still.load(SeqCst);
+        let still = if is_still { looks.saturating_add(1) } else { 0 };
+        self.still.store(still, SeqCst);
+    }
+
+    /// The height by which it tells whether it asks, where it has executed up to this one: that of the foremost; where they stand
+    /// still, and it lacks more than a few heights, one as far above as it asks from.
+    fn aim(&self, height: Height) -> Height {
+        let foremost = self.foremost();
+        let are_still = self.still.load(SeqCst) >= STILL_MILLIS / LOOK_MILLIS;
+        if are_still && foremost.0.saturating_sub(height.0) > STILL_HEIGHTS {
+            Height(foremost.0.saturating_add(AWAY_HEIGHTS))
+        } else {
+            foremost
+        }
     }
 
     /// Its clock sees that it has executed up to this height, and what all have shown. Whether it is to be prompted to look
     /// whether it asks.
     pub(crate) fn see<R: Wait>(&self, rt: &R, height: Height, shown: &[Height]) -> bool {
-        let foremost = foremost(self.faults, shown);
-        self.foremost.store(foremost.0, SeqCst);
+        self.note_foremost(foremost(self.faults, shown));
+        let aim = self.aim(height);
         let (was_away, is_away) = {
             let state = self.state.lock(rt);
-            (state.is_away(), state.is_far(height, foremost))
+            (state.is_away(), state.is_far(height, aim))
         };
         self.tell(height, is_away);
         (was_away || is_away) && !self.is_prompted.swap(true, SeqCst)
@@ -106,9 +129,9 @@ impl Comeback {
     /// The question that is due at a moment, if one is, where it has executed up to this height.
     pub(crate) fn look<R: Wait>(&self, rt: &R, now: u64, height: Height) -> Option<Question> {
         self.is_prompted.store(false, SeqCst);
-        let foremost = self.foremost();
+        let aim = self.aim(height);
         let mut state = self.state.lock(rt);
-        let question = state.look(now, height, foremost);
+        let question = state.look(now, height, aim);
         self.tell(height, state.is_away());
         question
     }

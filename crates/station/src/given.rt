@@ -5,30 +5,31 @@ use ids::{Config, ReplicaId};
 use std::alloc::{AllocError, Global};
 use std::sync::atomic::AtomicU64;
 use std::sync::atomic::Ordering::SeqCst;
-use tuning::GIVEN_AHEAD_MILLIS;
 
-/// Until when what each replica was given is counted, in milliseconds. Threads share it by reference; two that give at once may
+/// Until when what each replica was given is counted, in one unit of time. Threads share it by reference; two that give at once may
 /// count one.
 #[derive(Drop)]
 pub(crate) struct Given {
+    /// Until how long ahead it may be.
+    ahead: u64,
     until: Vec<AtomicU64>,
 }
 
 impl Given {
-    /// Nothing was given.
-    pub(crate) fn none(alloc: Global, config: Config) -> Result<Given, AllocError> {
+    /// Nothing was given, and what is may count so long ahead.
+    pub(crate) fn none(alloc: Global, config: Config, ahead: u64) -> Result<Given, AllocError> {
         let mut until = Vec::new(alloc);
         for _ in 0..config.n() {
             until.push(AtomicU64::new(0))?;
         }
-        Ok(Given { until })
+        Ok(Given { ahead, until })
     }
 
     /// Until when all that a replica was given is counted, with something now that costs so much; None where it was given too
     /// much of late.
     fn until_with(&self, to: ReplicaId, now: u64, cost: u64) -> Option<u64> {
         let until = self.until.get(usize::from(to.0))?;
-        counted_until(GIVEN_AHEAD_MILLIS, until.load(SeqCst), now, cost)
+        counted_until(self.ahead, until.load(SeqCst), now, cost)
     }
 
     /// Whether a replica may be given something now.

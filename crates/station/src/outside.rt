@@ -7,7 +7,7 @@ use asking::{Ask, BlockCopy};
 use authenticators::VerifyingKeyring;
 use bytes::Bytes;
 use catching_up::Question;
-use fabric::{Outgoing, Post, Questioned, Recording};
+use fabric::{Copies, CopyUse, Outgoing, Post, Questioned, Recording};
 use frames_view::Frame;
 use ids::{Digest, Height, ReplicaId, View};
 use signed_frames::Sending;
@@ -192,6 +192,16 @@ impl<P: Post> Questioned for Outside<'_, '_, P> {
         questions.need(block, payer, None, now).is_ok()
     }
 
+    fn need_ahead<R: Wait + Clock>(&self, rt: &R, block: Digest, payer: ReplicaId) -> bool {
+        let now = self.now(rt);
+        let questions = &mut self.station.lock(rt).questions;
+        questions.has_room_ahead(payer) && questions.need(block, payer, None, now).is_ok()
+    }
+
+    fn forget<R: Wait>(&self, rt: &R, payer: ReplicaId) {
+        self.station.lock(rt).questions.forget(payer);
+    }
+
     fn need_below<R: Wait + Clock>(
         &self,
         rt: &R,
@@ -229,8 +239,59 @@ impl<P: Post> Questioned for Outside<'_, '_, P> {
         copies_of(alloc, questions.copies(block)).ok()
     }
 
-    fn close<R: Wait + Clock>(&self, rt: &R, block: &Digest) {
+    /// Of who is far behind no copy is tried alone: it asks for what others recorded, and that wasn't good.
+    fn use_of<R: Wait>(&self, rt: &R, block: &Digest, parent: &Digest, bytes: usize) -> CopyUse {
+        let is_away = self.station.comeback().is_away();
+        let questions = &self.station.lock(rt).questions;
+        match (questions.is_wanted(block), is_away) {
+            (false, true) => return CopyUse::Nothing,
+            (false, false) => return CopyUse::Alone,
+            _ => {}
+        }
+        if !questions.is_wanted(parent) {
+            return if is_away {
+                CopyUse::Together
+            } else {
+                CopyUse::Alone
+            };
+        }
+        if questions.copies(block).len() > usize::from(self.post.config().faults()) {
+            CopyUse::Nothing
+        } else if questions.may_wait(block, bytes) {
+            CopyUse::Together
+        } else {
+            CopyUse::Alone
+        }
+    }
+
+    fn keep_copy<R: Wait>(
+        &self,
+        rt: &R,
+        alloc: Global,
+        block: &Digest,
+        parent: Digest,
+        sender: ReplicaId,
+        copy: Bytes,
+    ) -> Option<Vec<Bytes>> {
+        let questions = &mut self.station.lock(rt).questions;
+        let senders = questions.keep(block, sender, copy).ok()?;
+        if questions.is_wanted(&parent) {
+            questions.wait_for(block, parent);
+            return None;
+        }
+        if senders <= usize::from(self.post.config().faults()) {
+            return None;
+        }
+        copies_of(alloc, questions.copies(block)).ok()
+    }
+
+    fn close<R: Wait + Clock>(&self, rt: &R, alloc: Global, block: &Digest) -> Option<Copies> {
         let now = self.now(rt);
-        self.station.lock(rt).questions.close(block, now);
+        let questions = &mut self.station.lock(rt).questions;
+        let above = questions.above(block);
+        questions.close(block, now);
+        let block = above?;
+        let frames = copies_of(alloc, questions.copies(&block)).ok()?;
+        Some(Copies { block, frames })
     }
 }

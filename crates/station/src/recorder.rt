@@ -10,7 +10,7 @@ use frames_view::{CoreView, Frame, NewViewView};
 use ids::{Config, Digest, Height, ReplicaId};
 use std::alloc::{AllocError, Global};
 use std::sync::{Mutex, Wait};
-use tuning::{ANSWER_BYTES_A_MILLI, LEAST_ANSWER_MILLIS, MOST_CATCH_UP_BYTES};
+use tuning::{ANSWER_BYTES_A_MILLI, GIVEN_AHEAD_MILLIS, LEAST_ANSWER_MILLIS, MOST_CATCH_UP_BYTES};
 
 /// A number of bytes as what memory is counted in.
 fn size_of(bytes: u64) -> usize {
@@ -44,7 +44,7 @@ impl Recorder {
         Ok(Recorder {
             frames: Mutex::new(FrameRecord::new(alloc, most)),
             announcements: Mutex::new(Announcements::new(alloc, config)?),
-            answers: Given::none(alloc, config)?,
+            answers: Given::none(alloc, config, GIVEN_AHEAD_MILLIS)?,
             blocks: Supplied::none(alloc, config)?,
         })
     }

@@ -5,7 +5,7 @@ use ids::{Config, Digest, ReplicaId};
 use std::alloc::{AllocError, Global};
 use std::sync::atomic::AtomicU64;
 use std::sync::atomic::Ordering::SeqCst;
-use tuning::{BLOCK_MILLIS, QUESTION_PAUSE_MILLIS};
+use tuning::{BLOCK_MICROS, GIVEN_AHEAD_MILLIS, QUESTION_PAUSE_MILLIS};
 
 /// The block that a replica was given last.
 #[derive(Drop)]
@@ -16,9 +16,11 @@ struct Last {
     at: AtomicU64,
 }
 
-/// What each replica was given that asked for blocks. Threads share it by reference.
+/// What each replica was given that asked for blocks, in microseconds. Threads share it by reference.
 #[derive(Drop)]
 pub(crate) struct Supplied {
+    /// What a block counts.
+    cost: u64,
     given: Given,
     last: Vec<Last>,
 }
@@ -31,6 +33,11 @@ fn beginning(block: &Digest) -> u64 {
     }
 }
 
+/// Milliseconds as microseconds.
+fn micros(millis: u64) -> u64 {
+    millis.saturating_mul(1000)
+}
+
 impl Supplied {
     /// Nothing was given.
     pub(crate) fn none(alloc: Global, config: Config) -> Result<Supplied, AllocError> {
@@ -41,8 +48,9 @@ impl Supplied {
                 at: AtomicU64::new(0),
             })?;
         }
-        let given = Given::none(alloc, config)?;
-        Ok(Supplied { given, last })
+        let cost = u64::from(config.faults()) * BLOCK_MICROS;
+        let given = Given::none(alloc, config, micros(GIVEN_AHEAD_MILLIS))?;
+        Ok(Supplied { cost, given, last })
     }
 
     /// Whether a replica was given this block last, and asks again sooner than a correct one does, which awaits an answer for
@@ -57,12 +65,12 @@ impl Supplied {
 
     /// Whether a replica that asks for a block now is given it: it has not just got it, and wasn't given too many of late.
     pub(crate) fn may_supply(&self, to: ReplicaId, block: &Digest, now: u64) -> bool {
-        self.given.may_give(to, now) && !self.has_just_got(to, block, now)
+        self.given.may_give(to, micros(now)) && !self.has_just_got(to, block, now)
     }
 
     /// A replica was given a block.
     pub(crate) fn supplied(&self, to: ReplicaId, block: &Digest, now: u64) {
-        let _counted = self.given.give(to, now, BLOCK_MILLIS);
+        let _counted = self.given.give(to, micros(now), self.cost);
         if let Some(last) = self.last.get(usize::from(to.0)) {
             last.begins.store(beginning(block), SeqCst);
             last.at.store(now, SeqCst);

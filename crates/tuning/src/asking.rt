@@ -16,12 +16,20 @@ pub const PAUSE_PART: u64 = 8;
 /// More: what doesn't exist is asked for longer.
 pub const MOST_TIMES_ASKED: u8 = 12;
 
-/// Milliseconds in which questions are counted: a frame's way.
-pub const QUESTION_PACE_MILLIS: u64 = 10;
+/// Milliseconds that a block is awaited before it's asked for once more, at most. Fewer: where answers take long, questions are
+/// asked so often that none is answered. More: one that is lost often costs more.
+pub const MOST_ASK_AGAIN_MILLIS: u64 = 3_840;
 
-/// Blocks that are asked for in that time, at most. More: faulty replicas have correct ones answer more. Fewer: one that
-/// lacks many blocks is behind longer.
-pub const QUESTION_PACE: u64 = 8;
+/// Milliseconds in which questions are counted: some turns of a busy processor. Fewer: who has its turn seldom asks for little.
+pub const QUESTION_PACE_MILLIS: u64 = 100;
+
+/// Questions that go out in that time, at most; a block that n replicas are asked for counts n. More: faulty replicas have
+/// correct ones answer more. Fewer: one that lacks many blocks is behind longer.
+pub const QUESTION_PACE: u64 = 1600;
+
+/// Blocks of others' records that are asked for at once on one replica's account, at most. More: where answers take long, they
+/// come late, and are asked for again. Fewer: who fell behind waits for answers.
+pub const MOST_ASKED_AHEAD: usize = 64;
 
 /// Blocks that are asked for at once on one replica's account, at most: as many heights as a leader may climb in view 15.
 /// More: what faulty replicas name takes more memory, and each look more time.

@@ -9,6 +9,14 @@ pub const AWAY_HEIGHTS: u64 = 2048;
 /// between is asked for one by one.
 pub const NEAR_HEIGHTS: u64 = 256;
 
+/// Heights by which it is behind others that stand still, behind which it asks, too. Fewer: it asks for what is on its way. More:
+/// what lies between is asked for one by one, and nobody goes on without it meanwhile.
+pub const STILL_HEIGHTS: u64 = 16;
+
+/// Milliseconds in which they executed nothing, behind which they stand still. Fewer: it asks for what is on its way. More: who
+/// is needed for a quorum comes later.
+pub const STILL_MILLIS: u64 = 500;
+
 /// Milliseconds in which nothing was executed behind which it asks the next one; as much more behind each round in vain. So
 /// long it awaits an answer, too, at least: twice as long as the last one took. Fewer: two are asked for the same. More: who
 /// gives nothing costs more.
@@ -35,9 +43,9 @@ pub const ANSWER_BYTES_A_MILLI: u64 = 32_768;
 /// Milliseconds that an answer counts for, at least. Fewer: who asks for little without end costs more.
 pub const LEAST_ANSWER_MILLIS: u64 = 2;
 
-/// Milliseconds that a block counts for which a replica asked. Fewer: who asks without end costs more. More than a question's
-/// share of a correct one's pace (`QUESTION_PACE`): that is given fewer than it asks for.
-pub const BLOCK_MILLIS: u64 = 1;
+/// Microseconds that a block counts for which a replica asked, for each that may be faulty. Fewer: who asks without end costs
+/// more. More than a block's share of a correct one's pace (`QUESTION_PACE`): that is given fewer than it asks for.
+pub const BLOCK_MICROS: u64 = 150;
 
 /// Milliseconds that what a replica was given may count ahead. Fewer: who takes much at once waits. More: who asks without end
 /// gets more at once.

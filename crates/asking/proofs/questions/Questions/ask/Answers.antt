@@ -1,7 +1,7 @@
 use Rattle.std.proofs.Common.{◌≡◌, ◌∙◌, ◌<◌, ap, sym, subst, refl, List, Some, true, get_or, length, set}
 use Rattle.std.specs.Prelude.{slice_get}
 use Rattle.std.proofs.lemmas.Slice.Eq.{bytes_eq-Decides}
-use Rattle.asking.specs.Asking.{Asking, Question, allows, asked_at, changed, counted, is_for, one_behind}
+use Rattle.asking.specs.Asking.{Asking, Question, allows, ask_of, asked_at, blocks_among, changed, counted, is_for, one_behind}
 use Rattle.asking.proofs.Bounds.{IsLike, set-bounded}
 use Rattle.asking.proofs.Changing.{changed-at, read-at, within-at}
 use Rattle.asking.proofs.questions.Questions.ask.Goals as goal
@@ -40,7 +40,8 @@ returns-clause-asks c =
     c.one_behind-self-inside.ensures.behind
     ∙ ap (one_behind c.self.inside.replicas) (c.payer.ensures ∙ ap (λ (q : Question). q.payer) read) in
     record {
-      allowed = ap (λ (a : Asking). allows c.args.now a.pace) (sym c.self.view_is)
+      allowed = ap (λ (a : Asking). allows (blocks_among a.replicas) c.args.now a.pace) (sym c.self.view_is)
+          ∙ ap (λ m. allows m c.args.now c.self.inside.pace) (sym c.blocks_among-most.ensures.blocks)
           ∙ sym c.allows.ensures.allows ∙ c.if-not-allows.false;
       place = c.in_ok-place.place;
       question = first.0;
@@ -50,7 +51,7 @@ returns-clause-asks c =
         first = λ k other at' due'.
             first.3 k other (within-at c.args.self.now.questions k other at') at' due';
       };
-      ask_is = c.ask.ensures.ask ∙ ap (λ (q : Question). record { block = q.block; to = q.whom }) is;
+      ask_is = c.ask.ensures.ask ∙ ap ask_of is;
       is = (λ j. record {
         replicas = c.self.inside.replicas;
         questions = written j;
