@@ -2,6 +2,7 @@
 
 ghost use Rattle.std.specs.Prelude.{◌≡◌};
 
+use crate::guarded::Guarded;
 use crate::station::Station;
 use asking::{Ask, BlockCopy};
 use authenticators::VerifyingKeyring;
@@ -23,6 +24,11 @@ fn copies_of(alloc: Global, copies: &[BlockCopy]) -> Result<Vec<Bytes>, AllocErr
         frames.push(copy.frame.clone()?)?;
     }
     Ok(frames)
+}
+
+/// Whether a block on this one is early: this one is asked for, and hasn't come.
+fn is_early(guarded: &Guarded<'_>, parent: &Digest) -> bool {
+    guarded.questions.is_wanted(parent) && !guarded.replica().knows(parent)
 }
 
 /// A post, and a replica's station: its sign of trouble, what it doubts, and its questions.
@@ -194,7 +200,11 @@ impl<P: Post> Questioned for Outside<'_, '_, P> {
 
     fn need_ahead<R: Wait + Clock>(&self, rt: &R, block: Digest, payer: ReplicaId) -> bool {
         let now = self.now(rt);
-        let questions = &mut self.station.lock(rt).questions;
+        let mut guarded = self.station.lock(rt);
+        if guarded.replica().knows(&block) {
+            return true;
+        }
+        let questions = &mut guarded.questions;
         questions.has_room_ahead(payer) && questions.need(block, payer, None, now).is_ok()
     }
 
@@ -242,13 +252,12 @@ impl<P: Post> Questioned for Outside<'_, '_, P> {
     /// Of who is far behind no copy is tried alone: it asks for what others recorded, and that wasn't good.
     fn use_of<R: Wait>(&self, rt: &R, block: &Digest, parent: &Digest, bytes: usize) -> CopyUse {
         let is_away = self.station.comeback().is_away();
-        let questions = &self.station.lock(rt).questions;
-        match (questions.is_wanted(block), is_away) {
-            (false, true) => return CopyUse::Nothing,
-            (false, false) => return CopyUse::Alone,
-            _ => {}
+        let guarded = self.station.lock(rt);
+        let questions = &guarded.questions;
+        if is_away && !questions.is_wanted(block) {
+            return CopyUse::Nothing;
         }
-        if !questions.is_wanted(parent) {
+        if !questions.is_wanted(block) || !is_early(&guarded, parent) {
             return if is_away {
                 CopyUse::Together
             } else {
@@ -273,9 +282,11 @@ impl<P: Post> Questioned for Outside<'_, '_, P> {
         sender: ReplicaId,
         copy: Bytes,
     ) -> Option<Vec<Bytes>> {
-        let questions = &mut self.station.lock(rt).questions;
+        let mut guarded = self.station.lock(rt);
+        let is_early = is_early(&guarded, &parent);
+        let questions = &mut guarded.questions;
         let senders = questions.keep(block, sender, copy).ok()?;
-        if questions.is_wanted(&parent) {
+        if is_early {
             questions.wait_for(block, parent);
             return None;
         }
