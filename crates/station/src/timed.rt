@@ -29,7 +29,8 @@ struct Timed<'s, 'a> {
 
 impl<'s, 'a> Timed<'s, 'a> {
     /// From where the replica is to begin anew. It climbs above all that it voted for, and further, since others may have voted
-    /// for more: from its lock twice as high at least, or one that leads in vain is above all others for long. But half of a view's climb stays free for what follows, since a view ends soon where its leader can't propose.
+    /// for more: from its lock twice as high at least, or one that leads in vain is above all others for long. But half of a
+    /// view's climb stays free for what follows, since a view ends soon where its leader can't propose.
     fn base<R: Wait>(&self, rt: &R, from: LeadFrom) -> Base {
         let guarded = self.station.lock(rt);
         let replica = guarded.replica();
