@@ -4,12 +4,14 @@
 //! clock. [`keep_time`] looks at one again and again, and hands in what is due.
 #![tactic(auto)]
 
+mod forerunner;
 mod forgetting;
 mod keeping;
 mod laws;
 mod trouble;
 mod watch;
 
+pub use forerunner::Forerunner;
 pub use forgetting::{Keep, lacks_next, prune_at};
 pub use keeping::{Watched, keep_time};
 pub use laws::{

@@ -258,6 +258,14 @@ impl<'a, G: Gate, O: Outgoing + Questioned + Recording> Worker<'a, G, O> {
         }
     }
 
+    /// Of a proposal of the replica's view that lacks its parent the certificate may not be good for it either.
+    fn look_at_waiting<R: Wait>(&self, rt: &R, arrived: &Arrived<'_>) {
+        if arrived.proposed_in() == Some(self.out.view()) {
+            let (keyring, bytes) = (self.keyring.verifying(), arrived.bytes.as_slice());
+            self.out.lacks_parent(rt, keyring, bytes);
+        }
+    }
+
     /// Takes a frame that was refused with `UnknownParent`. It waits, and who takes the block later finds it. Where
     /// the replica has another worker, that may have taken the block before the frame began to wait: so the frame
     /// is brought once more.
@@ -274,6 +282,7 @@ impl<'a, G: Gate, O: Outgoing + Questioned + Recording> Worker<'a, G, O> {
             return;
         };
         let brings = frame.brings.block();
+        self.look_at_waiting(rt, arrived);
         match &brings {
             Some(block) => self.ask_below(rt, block, frame.lacks, frame.sender),
             // Of an announcement the view counts at once.

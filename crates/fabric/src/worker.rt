@@ -87,6 +87,10 @@ pub trait Outgoing {
     /// Is told of a proposal of the replica's view whose own tag is right for this keyring's replica, and whose certificate
     /// isn't good for it.
     fn doubted<R: Wait>(&self, _rt: &R, _keyring: &VerifyingKeyring, _bytes: &[u8]) {}
+
+    /// Is told of a proposal of the replica's view that lacks its parent: its certificate may not be good for this keyring's replica
+    /// either.
+    fn lacks_parent<R: Wait>(&self, _rt: &R, _keyring: &VerifyingKeyring, _bytes: &[u8]) {}
 }
 
 /// The number of a frame that a replica sends to itself or has kept: it goes over no link.

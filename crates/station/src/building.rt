@@ -14,6 +14,7 @@ ghost use Rattle.marks.specs.Eyes.{first_eye};
 use crate::beside::Beside;
 use crate::comeback::Comeback;
 use crate::doubts::Doubts;
+use crate::forerunners::Forerunners;
 use crate::guarded::Guarded;
 use crate::left_out::LeftOut;
 use crate::lying::LiarStart;
@@ -186,6 +187,7 @@ pub fn build_station<'a>(
         trouble: TroubleSign::none(),
         passed_over: PassedOver::none(config),
         left_out: LeftOut::none(alloc, config)?,
+        forerunners: Forerunners::none(terms.patience),
         recorder: Recorder::new(alloc, config, terms.record)?,
         comeback: Comeback::none(config, number),
         late: terms.late_of(config, number),

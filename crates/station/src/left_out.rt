@@ -7,8 +7,8 @@ use std::sync::atomic::Ordering::SeqCst;
 use suspicion::ReplicaSet;
 use tuning::{LOOK_MILLIS, TROUBLE_MILLIS};
 
-/// When each replica told last that votes in its leader's certificate weren't right for it. For as long as trouble lasts, votes
-/// go to who did, too: so it counts quorums itself, and a liar whose votes are right for all but that one doesn't leave it behind.
+/// When each replica told last that votes in its leader's certificate weren't right for it; and when this one found that last of
+/// its own. For as long as trouble lasts, votes go to who told it, too: so it counts quorums itself, and a liar whose votes are right for all but that one doesn't leave it behind.
 /// Threads share it by reference.
 #[derive(Drop)]
 pub(crate) struct LeftOut {
@@ -37,15 +37,21 @@ impl LeftOut {
         self.looks.store(looks, SeqCst);
     }
 
-    /// A replica tells it.
+    /// A replica tells it, or this one finds it.
     pub(crate) fn hear(&self, from: ReplicaId) {
         if let Some(told) = self.told.get(usize::from(from.0)) {
             told.store(self.looks.load(SeqCst).saturating_add(1), SeqCst);
         }
     }
 
+    /// Whether a replica told it at any time.
+    pub(crate) fn ever(&self, replica: ReplicaId) -> bool {
+        let told = self.told.get(usize::from(replica.0));
+        told.is_some_and(|told| told.load(SeqCst) > 0)
+    }
+
     /// Whether a replica told it of late.
-    fn has(&self, replica: ReplicaId) -> bool {
+    pub(crate) fn has(&self, replica: ReplicaId) -> bool {
         let Some(told) = self.told.get(usize::from(replica.0)) else {
             return false;
         };

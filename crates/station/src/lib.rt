@@ -6,6 +6,7 @@ mod beside;
 mod building;
 mod comeback;
 mod doubts;
+mod forerunners;
 mod given;
 mod guarded;
 mod left_out;

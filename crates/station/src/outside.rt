@@ -41,9 +41,10 @@ pub(crate) struct Outside<'s, 'a, P> {
 }
 
 impl<P: Post> Outside<'_, '_, P> {
-    /// Tells all others whose votes weren't right for the replica: who leads does without them, and the others' votes go to it,
-    /// too. Not while it is behind: it couldn't vote in their place, and no quorum would be left.
+    /// Notes that the replica is left out, and tells all others whose votes weren't right for it: who leads does without them, and the
+    /// others' votes go to it, too. Not while it is behind: it couldn't vote in their place, and no quorum would be left.
     fn tell_doubt<R: Wait>(&self, rt: &R, voters: ReplicaSet) {
+        self.station.left_out().hear(self.station.number());
         if !self.station.comeback().is_near(self.station.height(rt)) {
             return;
         }
@@ -163,6 +164,12 @@ impl<P: Post> Outgoing for Outside<'_, '_, P> {
         }
     }
 
+    fn lacks_parent<R: Wait>(&self, rt: &R, keyring: &VerifyingKeyring, bytes: &[u8]) {
+        if let Some(doubt) = self.station.passed_over().look(rt, keyring, bytes) {
+            self.tell_doubt(rt, doubt.wrong);
+        }
+    }
+
     fn hear_doubt<R: Wait>(&self, rt: &R, from: ReplicaId, voters: ReplicaSet) {
         let passed_over = self.station.passed_over();
         passed_over.hear(rt, self.leads(), from, &voters);
@@ -220,9 +227,11 @@ impl<P: Post> Questioned for Outside<'_, '_, P> {
         sender: ReplicaId,
     ) {
         let now = self.now(rt);
+        let is_left_out = self.station.left_out().has(self.station.number());
+        let whom = if is_left_out { None } else { Some(sender) };
         let questions = &mut self.station.lock(rt).questions;
         let payer = questions.payer(block).unwrap_or(sender);
-        let _refused = questions.need(parent, payer, Some(sender), now);
+        let _refused = questions.need(parent, payer, whom, now);
         questions.wait_for(block, parent);
     }
 
@@ -249,16 +258,20 @@ impl<P: Post> Questioned for Outside<'_, '_, P> {
         copies_of(alloc, questions.copies(block)).ok()
     }
 
-    /// Of who is far behind no copy is tried alone: it asks for what others recorded, and that wasn't good.
+    /// Of who is far behind, or left out, no copy is tried alone: what others sent it wasn't good.
     fn use_of<R: Wait>(&self, rt: &R, block: &Digest, parent: &Digest, bytes: usize) -> CopyUse {
         let is_away = self.station.comeback().is_away();
+        let is_left_out = self.station.left_out().has(self.station.number());
         let guarded = self.station.lock(rt);
         let questions = &guarded.questions;
         if is_away && !questions.is_wanted(block) {
             return CopyUse::Nothing;
         }
-        if !questions.is_wanted(block) || !is_early(&guarded, parent) {
-            return if is_away {
+        if !questions.is_wanted(block) {
+            return CopyUse::Alone;
+        }
+        if !is_early(&guarded, parent) {
+            return if is_away || is_left_out {
                 CopyUse::Together
             } else {
                 CopyUse::Alone

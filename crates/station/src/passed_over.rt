@@ -1,12 +1,40 @@
 //! Whose votes a leader passes over.
 
 use authenticators::VerifyingKeyring;
-use ids::{Config, ReplicaId, View};
+use ids::{Config, MOST_REPLICAS, ReplicaId, View};
 use std::sync::atomic::Ordering::SeqCst;
 use std::sync::atomic::{AtomicBool, AtomicU64};
 use std::sync::{Mutex, Wait};
 use suspicion::{Doubt, Passing, ReplicaSet, doubt_in};
 use tuning::{LOOK_MILLIS, MOST_UNHEARD_MILLIS, UNHEARD_MILLIS};
+
+/// What replicas told of votes, and who of them is far behind: it isn't heard, since it couldn't vote in place of those of whom it
+/// tells.
+#[derive(Drop)]
+struct Told {
+    passing: Passing,
+    far: ReplicaSet,
+}
+
+impl Told {
+    /// Whether one that told something is far behind.
+    fn is_outrun(&self) -> bool {
+        (0..MOST_REPLICAS as u8).any(|number| self.far.has(ReplicaId(number))
+            && self.passing.has_told(ReplicaId(number)))
+    }
+
+    /// The replica's clock finds these far behind. Whether what was told is void: one that told something is among them. Who
+    /// isn't tells it again.
+    fn see(&mut self, far: ReplicaSet) -> bool {
+        self.far = far;
+        let is_void = self.is_outrun();
+        if is_void {
+            self.passing.forget();
+            self.passing.hear_all();
+        }
+        is_void
+    }
+}
 
 /// The replicas whose votes a replica passes over where it leads, under their lock.
 #[derive(Drop)]
@@ -18,7 +46,7 @@ pub(crate) struct PassedOver {
     /// For how many milliseconds more who told something isn't heard, and for how many the next time in this view.
     unheard: AtomicU64,
     unheard_next: AtomicU64,
-    passing: Mutex<Passing>,
+    told: Mutex<Told>,
 }
 
 impl PassedOver {
@@ -30,7 +58,10 @@ impl PassedOver {
             are_any: AtomicBool::new(false),
             unheard: AtomicU64::new(0),
             unheard_next: AtomicU64::new(UNHEARD_MILLIS),
-            passing: Mutex::new(Passing::none(config)),
+            told: Mutex::new(Told {
+                passing: Passing::none(config),
+                far: ReplicaSet::none(),
+            }),
         }
     }
 
@@ -48,10 +79,16 @@ impl PassedOver {
         before > 0 && left == 0
     }
 
-    /// The replica's clock looks, once in `LOOK_MILLIS`, and finds it in this view. The next refused frame is to be looked at.
-    pub(crate) fn look_again<R: Wait>(&self, rt: &R, view: View) {
-        if self.hears_again(view) {
-            self.passing.lock(rt).hear_all();
+    /// The replica's clock looks, once in `LOOK_MILLIS`, and finds it in this view, and these far behind it. The next refused frame is
+    /// to be looked at.
+    pub(crate) fn look_again<R: Wait>(&self, rt: &R, view: View, far: ReplicaSet) {
+        let hears_again = self.hears_again(view);
+        let mut told = self.told.lock(rt);
+        if hears_again {
+            told.passing.hear_all();
+        }
+        if told.see(far) {
+            self.are_any.store(false, SeqCst);
         }
         self.is_asked.store(true, SeqCst);
     }
@@ -67,24 +104,27 @@ impl PassedOver {
             return None;
         }
         let doubt = doubt_in(keyring, bytes)?;
-        self.passing.lock(rt).find(doubt.wrong);
+        self.told.lock(rt).passing.find(doubt.wrong);
         self.are_any.store(true, SeqCst);
         Some(doubt)
     }
 
     /// Another replica told whose votes in a leader's certificate weren't right for it. That is noted where this one leads, or
-    /// where a quorum is left without all of them.
+    /// where a quorum is left without all of them; but not of one that is far behind.
     pub(crate) fn hear<R: Wait>(&self, rt: &R, leads: bool, from: ReplicaId, voters: &ReplicaSet) {
-        let mut passing = self.passing.lock(rt);
-        if leads || passing.spares(from, voters) {
-            passing.hear(from, voters);
+        let mut told = self.told.lock(rt);
+        if told.far.has(from) {
+            return;
+        }
+        if leads || told.passing.spares(from, voters) {
+            told.passing.hear(from, voters);
             self.are_any.store(true, SeqCst);
         }
     }
 
     /// Whether a replica is.
     pub(crate) fn has<R: Wait>(&self, rt: &R, voter: ReplicaId) -> bool {
-        self.are_any.load(SeqCst) && self.passing.lock(rt).has(voter)
+        self.are_any.load(SeqCst) && self.told.lock(rt).passing.has(voter)
     }
 
     /// Nobody is any more. Who told something isn't heard for a while: twice as long as the last time in this view.
@@ -93,7 +133,7 @@ impl PassedOver {
         self.unheard.store(millis, SeqCst);
         let next = millis.saturating_mul(2).min(MOST_UNHEARD_MILLIS);
         self.unheard_next.store(next, SeqCst);
-        self.passing.lock(rt).forget();
+        self.told.lock(rt).passing.forget();
         self.are_any.store(false, SeqCst);
     }
 }

@@ -6,6 +6,7 @@ ghost use Rattle.marks.specs.Eyes.{IsOwnerOf};
 
 use crate::comeback::Comeback;
 use crate::doubts::Doubts;
+use crate::forerunners::Forerunners;
 use crate::guarded::Guarded;
 use crate::left_out::LeftOut;
 use crate::passed_over::PassedOver;
@@ -72,6 +73,7 @@ pub struct Station<'a> {
     pub(crate) trouble: TroubleSign,
     pub(crate) passed_over: PassedOver,
     pub(crate) left_out: LeftOut,
+    pub(crate) forerunners: Forerunners,
     pub(crate) recorder: Recorder,
     pub(crate) comeback: Comeback,
     /// Up to which height others are to have executed before its workers begin.
@@ -190,6 +192,11 @@ impl<'a> Station<'a> {
     /// Who has to count votes itself.
     pub(crate) fn left_out(&self) -> &LeftOut {
         &self.left_out
+    }
+
+    /// Whom it follows into a later view.
+    pub(crate) fn forerunners(&self) -> &Forerunners {
+        &self.forerunners
     }
 
     /// What it recorded for others.

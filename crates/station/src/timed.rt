@@ -6,11 +6,12 @@ use crate::sights::Sights;
 use crate::station::Station;
 use clock::{Due, LeadFrom, Pulse, Watched, keep_time};
 use fabric::Base;
-use ids::{Fault, Height, MOST_REPLICAS, View};
+use ids::{Fault, Height, MOST_REPLICAS, ReplicaId, View};
 use std::sync::Wait;
 use std::sync::atomic::AtomicBool;
 use std::time::Clock;
-use tuning::{LEAD_CLIMB, LEAD_PART, MOST_CLIMB};
+use suspicion::ReplicaSet;
+use tuning::{LEAD_CLIMB, LEAD_PART, MOST_CLIMB, NEAR_HEIGHTS};
 
 /// Whether so many of these views are as great as one.
 fn are_in(view: View, views: &[View], many: u8) -> bool
@@ -76,6 +77,40 @@ impl<'s, 'a> Timed<'s, 'a> {
         are_in(later, &self.sights.views(), 1)
     }
 
+    /// The other replicas that are far behind this one, as their clocks saw last.
+    fn far<R: Wait>(&self, rt: &R) -> ReplicaSet {
+        let height = self.station.height(rt);
+        let mut far = ReplicaSet::none();
+        for (number, shown) in (0..self.sights.config().n()).zip(self.shown()) {
+            if height.0.saturating_sub(shown.0) > NEAR_HEIGHTS {
+                far.add(ReplicaId(number));
+            }
+        }
+        far
+    }
+
+    /// Those that told of votes at any time, are in a later view than this one, as their clocks saw last, and aren't far behind.
+    fn ahead(&self, view: View, far: &ReplicaSet) -> ReplicaSet {
+        let mut ahead = ReplicaSet::none();
+        for (number, shown) in (0..self.sights.config().n()).zip(self.sights.views()) {
+            let replica = ReplicaId(number);
+            if shown.0 > view.0 && self.station.left_out().ever(replica) && !far.has(replica) {
+                ahead.add(replica);
+            }
+        }
+        ahead
+    }
+
+    /// What the clock's look changes for others: whose votes the replica passes over, to whom its own go; and which view is to
+    /// end, if one is, since others follow one that left it.
+    fn look_around<R: Wait>(&self, rt: &R, view: View) -> Option<View> {
+        let far = self.far(rt);
+        self.station.passed_over().look_again(rt, view, far);
+        self.station.left_out().look();
+        let ahead = self.ahead(view, &far);
+        self.station.forerunners().look(rt, &ahead).then_some(view)
+    }
+
     /// What is seen of the replica.
     fn seen<R: Wait>(&self, rt: &R) -> Pulse {
         let guarded = self.station.lock(rt);
@@ -121,12 +156,11 @@ impl<'s, 'a> Watched for Timed<'s, 'a> {
 
     fn hand_in<R: Wait>(&self, rt: &R, due: Due) {
         let view = self.station.trouble().view();
-        self.station.passed_over().look_again(rt, view);
-        self.station.left_out().look();
+        let followed = self.look_around(rt, view);
         if due.beat {
             let _lost = self.station.inbox().beat(rt);
         }
-        if let Some(view) = due.timeout {
+        if let Some(view) = due.timeout.or(followed) {
             self.station.note_end(view);
             let _lost = self.station.inbox().timeout(rt, view);
         }

@@ -151,6 +151,13 @@ impl Passing {
         self.find(voters);
     }
 
+    /// Whether a replica told something.
+    pub fn has_told(&self, from: ReplicaId) -> bool
+        ensures { result ≡ is_in self.now.tellers from }
+    {
+        self.tellers.has(from)
+    }
+
     /// Whether a quorum is left without those that are passed over, all who told something, this replica and these, of whom it
     /// tells. Then a leader needn't wait for any of them.
     pub fn spares(&self, from: ReplicaId, voters: &ReplicaSet) -> bool

@@ -56,6 +56,13 @@ pub const BEGINNING_SLACK: u64 = 2;
 /// all with blocks that are never decided.
 pub const MOST_UNDECIDED: u64 = 2 * MOST_CLIMB;
 
+/// Milliseconds for which a replica that told of votes may be in a later view than the others until they follow it; twice as many each
+/// time. Fewer: liars end views. More: a correct one falls behind that left its view before the others.
+pub const FOLLOW_MILLIS: u64 = 100;
+
+/// Those, at most; and for how many it has to be in the others' view until they are as few as at first. Fewer: liars end more views.
+pub const MOST_FOLLOW_MILLIS: u64 = 64_000;
+
 /// Milliseconds for which a replica's votes go to all behind the last trouble: some hundred times what frames take between
 /// replicas. Shorter: a liar that does harm at times has each leader begin anew. Longer: more votes than needed.
 pub const TROUBLE_MILLIS: u64 = 4000;
