@@ -183,6 +183,7 @@ pub fn build_station<'a>(
         keep: terms.keep(config),
         patience: terms.patience,
         ended: AtomicU64::new(0),
+        held: AtomicU64::new(0),
         doubts: Doubts::none(),
         trouble: TroubleSign::none(),
         passed_over: PassedOver::none(config),

@@ -69,6 +69,8 @@ pub struct Station<'a> {
     pub(crate) patience: u64,
     /// One more than the last view that its clock ended, 0 where there is none.
     pub(crate) ended: AtomicU64,
+    /// One more than the last view whose end it held back, 0 where there is none.
+    pub(crate) held: AtomicU64,
     pub(crate) doubts: Doubts,
     pub(crate) trouble: TroubleSign,
     pub(crate) passed_over: PassedOver,
@@ -217,6 +219,12 @@ impl<'a> Station<'a> {
     /// Its clock ended this view.
     pub(crate) fn note_end(&self, view: View) {
         self.ended.store(view.0.saturating_add(1), SeqCst);
+    }
+
+    /// The end of this view is held back. Whether it wasn't before.
+    pub(crate) fn note_held(&self, view: View) -> bool {
+        let next = view.0.saturating_add(1);
+        self.held.swap(next, SeqCst) != next
     }
 
     /// The height of the last block that the replica has executed.

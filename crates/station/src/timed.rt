@@ -101,6 +101,12 @@ impl<'s, 'a> Timed<'s, 'a> {
         ahead
     }
 
+    /// Whether the replica waits until the end of this view is due once more: it is left out by some votes. If it were the first to leave,
+    /// others could go on with those in place of its own.
+    fn holds_back(&self, view: View) -> bool {
+        self.station.left_out().ever(self.station.number()) && self.station.note_held(view)
+    }
+
     /// What the clock's look changes for others: whose votes the replica passes over, to whom its own go; and which view is to
     /// end, if one is, since others follow one that left it.
     fn look_around<R: Wait>(&self, rt: &R, view: View) -> Option<View> {
@@ -160,7 +166,8 @@ impl<'s, 'a> Watched for Timed<'s, 'a> {
         if due.beat {
             let _lost = self.station.inbox().beat(rt);
         }
-        if let Some(view) = due.timeout.or(followed) {
+        let ended = due.timeout.filter(|view| !self.holds_back(*view));
+        if let Some(view) = ended.or(followed) {
             self.station.note_end(view);
             let _lost = self.station.inbox().timeout(rt, view);
         }

@@ -58,7 +58,7 @@ pub const MOST_UNDECIDED: u64 = 2 * MOST_CLIMB;
 
 /// Milliseconds for which a replica that told of votes may be in a later view than the others until they follow it; twice as many each
 /// time. Fewer: liars end views. More: a correct one falls behind that left its view before the others.
-pub const FOLLOW_MILLIS: u64 = 100;
+pub const FOLLOW_MILLIS: u64 = 1000;
 
 /// Those, at most; and for how many it has to be in the others' view until they are as few as at first. Fewer: liars end more views.
 pub const MOST_FOLLOW_MILLIS: u64 = 64_000;
