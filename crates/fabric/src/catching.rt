@@ -23,7 +23,7 @@ impl<'a, G: Gate, O: Outgoing + Questioned + Recording> Worker<'a, G, O> {
     /// others' view once it has their blocks.
     pub(crate) fn is_out_of_reach(&self, arrived: &Arrived<'_>) -> bool {
         let Some(reach) = self.out.reach() else {
-            return false;
+            return self.is_no_help(arrived);
         };
         match arrived.frame() {
             Frame::Proposal(proposal) => proposal.core().height().0 > reach.0,
@@ -31,6 +31,11 @@ impl<'a, G: Gate, O: Outgoing + Questioned + Recording> Worker<'a, G, O> {
             Frame::Vote(_) | Frame::NewView(_) | Frame::Request(_) => true,
             _ => false,
         }
+    }
+
+    /// Whether a frame is a vote that comes to one which is left out and a little behind, and doesn't lead: copies bring it on.
+    fn is_no_help(&self, arrived: &Arrived<'_>) -> bool {
+        matches!(arrived.frame(), Frame::Vote(_)) && self.out.trails() && !self.out.leads()
     }
 
     /// Takes what another replica answered, where this one was asked and the answer is awaited. Announcements come where there

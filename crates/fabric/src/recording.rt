@@ -25,6 +25,12 @@ pub trait Recording {
         None
     }
 
+    /// Whether votes weren't right for the replica of late, and it is a little behind: others' copies bring it on, and what it tries
+    /// alone holds it up.
+    fn trails(&self) -> bool {
+        false
+    }
+
     /// Another replica asks for what this one recorded.
     fn answer<R: Wait + Clock>(
         &self,

@@ -117,9 +117,11 @@ impl<'a, G: Gate, O: Outgoing + Questioned + Recording> Worker<'a, G, O> {
         let Some(brought) = self.offer_once(rt, steps, share, arrived) else {
             return Err(Fault::BadTag);
         };
-        if arrived.proposed_in() == Some(self.out.view()) {
+        if self.is_of_view(arrived) {
             let keyring = self.keyring.verifying();
             self.out.doubted(rt, keyring, arrived.bytes.as_slice());
+        } else {
+            self.look_at_proposal(rt, arrived);
         }
         if brought != Err(Fault::BadTag) {
             return brought;
@@ -186,10 +188,15 @@ impl<'a, G: Gate, O: Outgoing + Questioned + Recording> Worker<'a, G, O> {
         }
     }
 
-    /// Whether a waiting frame brings a block that was asked for, by a replica that is far behind: it comes by copies.
+    /// Whether the replica takes others' copies, and tries nothing alone: it is far behind, or left out and a little behind.
+    fn goes_by_copies(&self) -> bool {
+        self.out.reach().is_some() || self.out.trails()
+    }
+
+    /// Whether a waiting frame brings a block that was asked for, by a replica that goes by copies.
     fn comes_by_copies<R: Wait>(&self, rt: &R, frame: &Waiting) -> bool {
-        match (frame.brings.block(), self.out.reach()) {
-            (Some(block), Some(_reach)) => self.out.wants(rt, &block),
+        match frame.brings.block() {
+            Some(block) if self.goes_by_copies() => self.out.wants(rt, &block),
             _ => false,
         }
     }
@@ -258,11 +265,17 @@ impl<'a, G: Gate, O: Outgoing + Questioned + Recording> Worker<'a, G, O> {
         }
     }
 
-    /// Of a proposal of the replica's view that lacks its parent the certificate may not be good for it either.
-    fn look_at_waiting<R: Wait>(&self, rt: &R, arrived: &Arrived<'_>) {
-        if arrived.proposed_in() == Some(self.out.view()) {
+    /// Whether a frame is a proposal of the replica's view.
+    fn is_of_view(&self, arrived: &Arrived<'_>) -> bool {
+        arrived.proposed_in() == Some(self.out.view())
+    }
+
+    /// A proposal isn't taken yet: its certificate may not be good for the replica.
+    fn look_at_proposal<R: Wait>(&self, rt: &R, arrived: &Arrived<'_>) {
+        if arrived.proposed_in().is_some() {
             let (keyring, bytes) = (self.keyring.verifying(), arrived.bytes.as_slice());
-            self.out.lacks_parent(rt, keyring, bytes);
+            self.out
+                .passed(rt, keyring, bytes, self.is_of_view(arrived));
         }
     }
 
@@ -282,7 +295,7 @@ impl<'a, G: Gate, O: Outgoing + Questioned + Recording> Worker<'a, G, O> {
             return;
         };
         let brings = frame.brings.block();
-        self.look_at_waiting(rt, arrived);
+        self.look_at_proposal(rt, arrived);
         match &brings {
             Some(block) => self.ask_below(rt, block, frame.lacks, frame.sender),
             // Of an announcement the view counts at once.
@@ -476,7 +489,7 @@ impl<'a, G: Gate, O: Outgoing + Questioned + Recording> Worker<'a, G, O> {
     }
 
     /// A proposal that lacked grounds is offered once more, where something came since that may give it some: not to a replica that
-    /// is far behind, which takes others' copies.
+    /// takes others' copies.
     pub(crate) fn try_again<R: Wait + Clock, S: Steps>(
         &mut self,
         rt: &R,
@@ -485,7 +498,7 @@ impl<'a, G: Gate, O: Outgoing + Questioned + Recording> Worker<'a, G, O> {
     )
         ensures { HasGrown share.old share.new }
     {
-        if self.out.reach().is_some() {
+        if self.goes_by_copies() {
             return;
         }
         let tried_at = self.room.news();

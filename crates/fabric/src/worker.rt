@@ -88,9 +88,15 @@ pub trait Outgoing {
     /// isn't good for it.
     fn doubted<R: Wait>(&self, _rt: &R, _keyring: &VerifyingKeyring, _bytes: &[u8]) {}
 
-    /// Is told of a proposal of the replica's view that lacks its parent: its certificate may not be good for this keyring's replica
-    /// either.
-    fn lacks_parent<R: Wait>(&self, _rt: &R, _keyring: &VerifyingKeyring, _bytes: &[u8]) {}
+    /// Is told of another proposal that isn't taken yet, of the replica's view or of another one: its certificate may not be good for
+    /// this keyring's replica either.
+    fn passed<R: Wait>(
+        &self,
+        _rt: &R,
+        _keyring: &VerifyingKeyring,
+        _bytes: &[u8],
+        _in_view: bool,
+    ) {}
 }
 
 /// The number of a frame that a replica sends to itself or has kept: it goes over no link.

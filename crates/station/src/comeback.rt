@@ -46,6 +46,8 @@ pub(crate) struct Comeback {
     is_away: AtomicBool,
     /// Up to which height frames are of use to it while it is far behind.
     reach: AtomicU64,
+    /// Whether it was some heights below the foremost when its clock looked last.
+    trails: AtomicBool,
     /// Whether it is to look whether it asks, and has not yet.
     is_prompted: AtomicBool,
 }
@@ -62,6 +64,7 @@ impl Comeback {
             still: AtomicU64::new(0),
             is_away: AtomicBool::new(false),
             reach: AtomicU64::new(0),
+            trails: AtomicBool::new(false),
             is_prompted: AtomicBool::new(false),
         }
     }
@@ -97,6 +100,8 @@ impl Comeback {
     /// whether it asks.
     pub(crate) fn see<R: Wait>(&self, rt: &R, height: Height, shown: &[Height]) -> bool {
         self.note_foremost(foremost(self.faults, shown));
+        let behind = self.foremost().0.saturating_sub(height.0);
+        self.trails.store(behind > STILL_HEIGHTS, SeqCst);
         let aim = self.aim(height);
         let (was_away, is_away) = {
             let state = self.state.lock(rt);
@@ -109,6 +114,11 @@ impl Comeback {
     /// Whether it is far behind.
     pub(crate) fn is_away(&self) -> bool {
         self.is_away.load(SeqCst)
+    }
+
+    /// Whether it was some heights below the foremost when its clock looked last.
+    pub(crate) fn trails(&self) -> bool {
+        self.trails.load(SeqCst)
     }
 
     /// Whether no more than f others were ahead of it by more than a little when its clock looked last, where it has executed up to

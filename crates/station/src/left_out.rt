@@ -50,6 +50,11 @@ impl LeftOut {
         told.is_some_and(|told| told.load(SeqCst) > 0)
     }
 
+    /// Whether any told it at any time.
+    pub(crate) fn is_any(&self) -> bool {
+        self.told.iter().any(|told| told.load(SeqCst) > 0)
+    }
+
     /// Whether a replica told it of late.
     pub(crate) fn has(&self, replica: ReplicaId) -> bool {
         let Some(told) = self.told.get(usize::from(replica.0)) else {

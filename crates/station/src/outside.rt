@@ -41,10 +41,9 @@ pub(crate) struct Outside<'s, 'a, P> {
 }
 
 impl<P: Post> Outside<'_, '_, P> {
-    /// Notes that the replica is left out, and tells all others whose votes weren't right for it: who leads does without them, and the
+    /// Tells all others whose votes weren't right for the replica: who leads does without them, and the
     /// others' votes go to it, too. Not while it is behind: it couldn't vote in their place, and no quorum would be left.
     fn tell_doubt<R: Wait>(&self, rt: &R, voters: ReplicaSet) {
-        self.station.left_out().hear(self.station.number());
         if !self.station.comeback().is_near(self.station.height(rt)) {
             return;
         }
@@ -71,6 +70,11 @@ impl<'s, 'a, P> Outside<'s, 'a, P> {
         }
     }
 
+    /// Whether votes weren't right for the replica of late.
+    fn is_left_out(&self) -> bool {
+        self.station.left_out().has(self.station.number())
+    }
+
     /// The milliseconds since its worker began.
     fn now<R: Clock>(&self, rt: &R) -> u64 {
         let passed = self.start.and_then(|start| start.elapsed(rt).ok());
@@ -89,6 +93,10 @@ impl<P: Post> Recording for Outside<'_, '_, P> {
 
     fn reach(&self) -> Option<Height> {
         self.station.comeback().reach()
+    }
+
+    fn trails(&self) -> bool {
+        self.station.comeback().trails() && self.is_left_out()
     }
 
     fn answer<R: Wait + Clock>(&self, rt: &R, alloc: Global, from: ReplicaId, question: Question) {
@@ -159,13 +167,15 @@ impl<P: Post> Outgoing for Outside<'_, '_, P> {
     fn doubted<R: Wait>(&self, rt: &R, keyring: &VerifyingKeyring, bytes: &[u8]) {
         self.station.trouble().doubt();
         self.station.doubts().look(rt, keyring, bytes);
-        if let Some(doubt) = self.station.passed_over().look(rt, keyring, bytes) {
-            self.tell_doubt(rt, doubt.wrong);
-        }
+        self.passed(rt, keyring, bytes, true);
     }
 
-    fn lacks_parent<R: Wait>(&self, rt: &R, keyring: &VerifyingKeyring, bytes: &[u8]) {
-        if let Some(doubt) = self.station.passed_over().look(rt, keyring, bytes) {
+    fn passed<R: Wait>(&self, rt: &R, keyring: &VerifyingKeyring, bytes: &[u8], in_view: bool) {
+        let Some(doubt) = self.station.passed_over().look(rt, keyring, bytes) else {
+            return;
+        };
+        self.station.left_out().hear(self.station.number());
+        if in_view {
             self.tell_doubt(rt, doubt.wrong);
         }
     }
@@ -187,11 +197,14 @@ impl<P: Post> Outgoing for Outside<'_, '_, P> {
 
 /// The questions stand under the replica's lock, where its doorkeeper learns on whose account a block comes.
 impl<P: Post> Questioned for Outside<'_, '_, P> {
-    /// The first question goes out after a pause: votes that give grounds are mostly on their way.
+    /// The first question goes out after a pause: votes that give grounds are mostly on their way. To one that is left out they
+    /// aren't.
     fn need<R: Wait + Clock>(&self, rt: &R, block: Digest, payer: ReplicaId) {
         let now = self.now(rt);
+        let is_left_out = self.is_left_out();
         let questions = &mut self.station.lock(rt).questions;
-        let due = now.saturating_add(questions.wait());
+        let pause = if is_left_out { 0 } else { questions.wait() };
+        let due = now.saturating_add(pause);
         let _refused = questions.need(block, payer, None, due);
     }
 
@@ -227,8 +240,7 @@ impl<P: Post> Questioned for Outside<'_, '_, P> {
         sender: ReplicaId,
     ) {
         let now = self.now(rt);
-        let is_left_out = self.station.left_out().has(self.station.number());
-        let whom = if is_left_out { None } else { Some(sender) };
+        let whom = (!self.is_left_out()).then_some(sender);
         let questions = &mut self.station.lock(rt).questions;
         let payer = questions.payer(block).unwrap_or(sender);
         let _refused = questions.need(parent, payer, whom, now);
@@ -261,7 +273,7 @@ impl<P: Post> Questioned for Outside<'_, '_, P> {
     /// Of who is far behind, or left out, no copy is tried alone: what others sent it wasn't good.
     fn use_of<R: Wait>(&self, rt: &R, block: &Digest, parent: &Digest, bytes: usize) -> CopyUse {
         let is_away = self.station.comeback().is_away();
-        let is_left_out = self.station.left_out().has(self.station.number());
+        let is_left_out = self.is_left_out();
         let guarded = self.station.lock(rt);
         let questions = &guarded.questions;
         if is_away && !questions.is_wanted(block) {

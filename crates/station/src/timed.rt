@@ -89,12 +89,16 @@ impl<'s, 'a> Timed<'s, 'a> {
         far
     }
 
-    /// Those that told of votes at any time, are in a later view than this one, as their clocks saw last, and aren't far behind.
+    /// Those that are in a later view than this one, as their clocks saw last, and aren't far behind: where somebody told of votes at
+    /// any time, so that others may go on without one's own.
     fn ahead(&self, view: View, far: &ReplicaSet) -> ReplicaSet {
         let mut ahead = ReplicaSet::none();
+        if !self.station.left_out().is_any() {
+            return ahead;
+        }
         for (number, shown) in (0..self.sights.config().n()).zip(self.sights.views()) {
             let replica = ReplicaId(number);
-            if shown.0 > view.0 && self.station.left_out().ever(replica) && !far.has(replica) {
+            if shown.0 > view.0 && !far.has(replica) {
                 ahead.add(replica);
             }
         }
