@@ -1,8 +1,8 @@
 //! How a replica that fell behind comes back.
 
-ghost use Rattle.std.specs.Prelude.{◌≡◌, ◌-◌, ◌<◌, nat_le};
+ghost use Rattle.std.specs.Prelude.{◌≡◌, ◌-◌, ◌<◌, nat_le, nat_lt};
 ghost use Rattle.ids.specs.Sizes.{replicas};
-ghost use Rattle.tuning.specs.declared.catching_up.TheConstants.{NEAR_HEIGHTS};
+ghost use Rattle.tuning.specs.declared.catching_up.TheConstants.{NEAR_HEIGHTS, STILL_HEIGHTS};
 
 use catching_up::{CatchingUp, Pace, Question, foremost};
 use ids::{Config, Height, ReplicaId};
@@ -28,10 +28,17 @@ fn pace() -> Pace {
 }
 
 /// Whether a height is no more than a little below the foremost.
-fn is_near(foremost: Height, height: Height) -> bool
+pub(crate) fn is_near(foremost: Height, height: Height) -> bool
     ensures { result ≡ nat_le (foremost - height) NEAR_HEIGHTS }
 {
     foremost.0.saturating_sub(height.0) <= NEAR_HEIGHTS
+}
+
+/// Whether a height is some below the foremost.
+fn is_below(foremost: Height, height: Height) -> bool
+    ensures { result ≡ nat_lt STILL_HEIGHTS (foremost - height) }
+{
+    foremost.0.saturating_sub(height.0) > STILL_HEIGHTS
 }
 
 /// What a replica asks for where it fell behind, under its lock, and what its clock and its workers tell each other of that.
@@ -89,7 +96,7 @@ impl Comeback {
     fn aim(&self, height: Height) -> Height {
         let foremost = self.foremost();
         let are_still = self.still.load(SeqCst) >= STILL_MILLIS / LOOK_MILLIS;
-        if are_still && foremost.0.saturating_sub(height.0) > STILL_HEIGHTS {
+        if are_still && is_below(foremost, height) {
             Height(foremost.0.saturating_add(AWAY_HEIGHTS))
         } else {
             foremost
@@ -100,8 +107,7 @@ impl Comeback {
     /// whether it asks.
     pub(crate) fn see<R: Wait>(&self, rt: &R, height: Height, shown: &[Height]) -> bool {
         self.note_foremost(foremost(self.faults, shown));
-        let behind = self.foremost().0.saturating_sub(height.0);
-        self.trails.store(behind > STILL_HEIGHTS, SeqCst);
+        self.trails.store(is_below(self.foremost(), height), SeqCst);
         let aim = self.aim(height);
         let (was_away, is_away) = {
             let state = self.state.lock(rt);

@@ -18,7 +18,8 @@ struct Sight {
 /// The height that each replica has executed, and the view that it is in, as it showed them last. Threads share them by
 /// reference. In one process each clock shows its own; between processes replicas tell each other. Nothing wrong comes of what
 /// a faulty one shows: what more than f show is believed, and how long others keep what it needs has a bound. One alone can show a
-/// later view: then a view in which nothing is executed ends as soon as at its beginning.
+/// later view: then a view in which nothing is executed ends as soon as at its beginning; and where votes weren't right for somebody,
+/// the others follow, ever more rarely.
 #[derive(Drop)]
 pub struct Sights {
     config: Config,

@@ -2,6 +2,7 @@
 
 ghost use Rattle.std.specs.Prelude.{◌≡◌, count_by, nat_le};
 
+use crate::comeback::is_near;
 use crate::sights::Sights;
 use crate::station::Station;
 use clock::{Due, LeadFrom, Pulse, Watched, keep_time};
@@ -11,7 +12,7 @@ use std::sync::Wait;
 use std::sync::atomic::AtomicBool;
 use std::time::Clock;
 use suspicion::ReplicaSet;
-use tuning::{LEAD_CLIMB, LEAD_PART, MOST_CLIMB, NEAR_HEIGHTS};
+use tuning::{LEAD_CLIMB, LEAD_PART, MOST_CLIMB};
 
 /// Whether so many of these views are as great as one.
 fn are_in(view: View, views: &[View], many: u8) -> bool
@@ -82,7 +83,7 @@ impl<'s, 'a> Timed<'s, 'a> {
         let height = self.station.height(rt);
         let mut far = ReplicaSet::none();
         for (number, shown) in (0..self.sights.config().n()).zip(self.shown()) {
-            if height.0.saturating_sub(shown.0) > NEAR_HEIGHTS {
+            if !is_near(height, shown) {
                 far.add(ReplicaId(number));
             }
         }
