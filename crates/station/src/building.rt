@@ -37,7 +37,7 @@ use replica::Archived;
 use signed_frames::WorkerKeyring;
 use std::alloc::{AllocError, Global};
 use std::hash::RandomState;
-use std::sync::atomic::AtomicU64;
+use std::sync::atomic::{AtomicBool, AtomicU64};
 use std::sync::{Arc, Mutex};
 
 /// What a worker of a replica begins to lie with.
@@ -183,6 +183,7 @@ pub fn build_station<'a>(
         keep: terms.keep(config),
         patience: terms.patience,
         ended: AtomicU64::new(0),
+        alone: AtomicBool::new(false),
         held: AtomicU64::new(0),
         doubts: Doubts::none(),
         trouble: TroubleSign::none(),

@@ -50,9 +50,9 @@ impl LeftOut {
         told.is_some_and(|told| told.load(SeqCst) > 0)
     }
 
-    /// Whether any told it at any time.
-    pub(crate) fn is_any(&self) -> bool {
-        self.told.iter().any(|told| told.load(SeqCst) > 0)
+    /// Whether any told it of late.
+    pub(crate) fn are_any(&self) -> bool {
+        (0..MOST_REPLICAS as u8).any(|number| self.has(ReplicaId(number)))
     }
 
     /// Whether a replica told it of late.

@@ -175,7 +175,7 @@ impl<P: Post> Outgoing for Outside<'_, '_, P> {
             return;
         };
         self.station.left_out().hear(self.station.number());
-        if in_view {
+        if in_view || self.station.is_alone() {
             self.tell_doubt(rt, doubt.wrong);
         }
     }

@@ -8,26 +8,26 @@ use std::sync::{Mutex, Wait};
 use suspicion::{Doubt, Passing, ReplicaSet, doubt_in};
 use tuning::{LOOK_MILLIS, MOST_UNHEARD_MILLIS, UNHEARD_MILLIS};
 
-/// What replicas told of votes, and who of them is far behind: it isn't heard, since it couldn't vote in place of those of whom it
-/// tells.
+/// What replicas told of votes, and who of them is elsewhere, far behind or in a later view: it isn't heard, since it couldn't vote in
+/// place of those of whom it tells.
 #[derive(Drop)]
 struct Told {
     passing: Passing,
-    far: ReplicaSet,
+    elsewhere: ReplicaSet,
 }
 
 impl Told {
-    /// Whether one that told something is far behind.
-    fn is_outrun(&self) -> bool {
-        (0..MOST_REPLICAS as u8).any(|number| self.far.has(ReplicaId(number))
+    /// Whether one that told something is elsewhere.
+    fn is_void(&self) -> bool {
+        (0..MOST_REPLICAS as u8).any(|number| self.elsewhere.has(ReplicaId(number))
             && self.passing.has_told(ReplicaId(number)))
     }
 
-    /// The replica's clock finds these far behind. Whether what was told is void: one that told something is among them. Who
+    /// The replica's clock finds these elsewhere. Whether what was told is void: one that told something is among them. Who
     /// isn't tells it again.
-    fn see(&mut self, far: ReplicaSet) -> bool {
-        self.far = far;
-        let is_void = self.is_outrun();
+    fn see(&mut self, elsewhere: ReplicaSet) -> bool {
+        self.elsewhere = elsewhere;
+        let is_void = self.is_void();
         if is_void {
             self.passing.forget();
             self.passing.hear_all();
@@ -60,7 +60,7 @@ impl PassedOver {
             unheard_next: AtomicU64::new(UNHEARD_MILLIS),
             told: Mutex::new(Told {
                 passing: Passing::none(config),
-                far: ReplicaSet::none(),
+                elsewhere: ReplicaSet::none(),
             }),
         }
     }
@@ -79,15 +79,15 @@ impl PassedOver {
         before > 0 && left == 0
     }
 
-    /// The replica's clock looks, once in `LOOK_MILLIS`, and finds it in this view, and these far behind it. The next refused frame is
-    /// to be looked at.
-    pub(crate) fn look_again<R: Wait>(&self, rt: &R, view: View, far: ReplicaSet) {
+    /// The replica's clock looks, once in `LOOK_MILLIS`, and finds it in this view, and these elsewhere. The next refused frame is to
+    /// be looked at.
+    pub(crate) fn look_again<R: Wait>(&self, rt: &R, view: View, elsewhere: ReplicaSet) {
         let hears_again = self.hears_again(view);
         let mut told = self.told.lock(rt);
         if hears_again {
             told.passing.hear_all();
         }
-        if told.see(far) {
+        if told.see(elsewhere) {
             self.are_any.store(false, SeqCst);
         }
         self.is_asked.store(true, SeqCst);
@@ -110,10 +110,10 @@ impl PassedOver {
     }
 
     /// Another replica told whose votes in a leader's certificate weren't right for it. That is noted where this one leads, or
-    /// where a quorum is left without all of them; but not of one that is far behind.
+    /// where a quorum is left without all of them; but not of one that is elsewhere.
     pub(crate) fn hear<R: Wait>(&self, rt: &R, leads: bool, from: ReplicaId, voters: &ReplicaSet) {
         let mut told = self.told.lock(rt);
-        if told.far.has(from) {
+        if told.elsewhere.has(from) {
             return;
         }
         if leads || told.passing.spares(from, voters) {

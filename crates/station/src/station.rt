@@ -19,8 +19,8 @@ use locked_replica::{Closed, NotAll, Share};
 use log::{Log, warn};
 use replica::Replica;
 use std::marker::Model;
-use std::sync::atomic::AtomicU64;
 use std::sync::atomic::Ordering::SeqCst;
+use std::sync::atomic::{AtomicBool, AtomicU64};
 use std::sync::{Arc, Mutex, MutexGuard, Wait};
 use tuning::WARNING_PAUSE_SECONDS;
 
@@ -69,6 +69,8 @@ pub struct Station<'a> {
     pub(crate) patience: u64,
     /// One more than the last view that its clock ended, 0 where there is none.
     pub(crate) ended: AtomicU64,
+    /// Whether no quorum was in its view or a later one when its clock looked last.
+    pub(crate) alone: AtomicBool,
     /// One more than the last view whose end it held back, 0 where there is none.
     pub(crate) held: AtomicU64,
     pub(crate) doubts: Doubts,
@@ -219,6 +221,16 @@ impl<'a> Station<'a> {
     /// Its clock ended this view.
     pub(crate) fn note_end(&self, view: View) {
         self.ended.store(view.0.saturating_add(1), SeqCst);
+    }
+
+    /// Its clock found it ahead of the others in its view, or not.
+    pub(crate) fn note_alone(&self, is_alone: bool) {
+        self.alone.store(is_alone, SeqCst);
+    }
+
+    /// Whether its clock found it ahead of the others in its view.
+    pub(crate) fn is_alone(&self) -> bool {
+        self.alone.load(SeqCst)
     }
 
     /// The end of this view is held back. Whether it wasn't before.

@@ -90,20 +90,29 @@ impl<'s, 'a> Timed<'s, 'a> {
         far
     }
 
-    /// Those that are in a later view than this one, as their clocks saw last, and aren't far behind: where somebody told of votes at
-    /// any time, so that others may go on without one's own.
-    fn ahead(&self, view: View, far: &ReplicaSet) -> ReplicaSet {
+    /// Those that are in a later view than this one, as their clocks saw last.
+    fn ahead(&self, view: View) -> ReplicaSet {
         let mut ahead = ReplicaSet::none();
-        if !self.station.left_out().is_any() {
-            return ahead;
-        }
         for (number, shown) in (0..self.sights.config().n()).zip(self.sights.views()) {
-            let replica = ReplicaId(number);
-            if shown.0 > view.0 && !far.has(replica) {
-                ahead.add(replica);
+            if shown.0 > view.0 {
+                ahead.add(ReplicaId(number));
             }
         }
         ahead
+    }
+
+    /// Whether the replica follows one that is ahead and isn't far behind: where votes weren't right for somebody of late, so that others
+    /// may go on without those of one that left.
+    fn follows<R: Wait>(&self, rt: &R, ahead: &ReplicaSet, far: &ReplicaSet) -> bool {
+        let are_any = self.station.left_out().are_any();
+        let mut forerunners = ReplicaSet::none();
+        for number in 0..self.sights.config().n() {
+            let replica = ReplicaId(number);
+            if are_any && ahead.has(replica) && !far.has(replica) {
+                forerunners.add(replica);
+            }
+        }
+        self.station.forerunners().look(rt, &forerunners)
     }
 
     /// Whether the replica waits until the end of this view is due once more: it is left out by some votes. If it were the first to leave,
@@ -113,13 +122,13 @@ impl<'s, 'a> Timed<'s, 'a> {
     }
 
     /// What the clock's look changes for others: whose votes the replica passes over, to whom its own go; and which view is to
-    /// end, if one is, since others follow one that left it.
+    /// end, if one is, since others follow one that left it. Who is far behind, or left the view, couldn't vote in it.
     fn look_around<R: Wait>(&self, rt: &R, view: View) -> Option<View> {
-        let far = self.far(rt);
-        self.station.passed_over().look_again(rt, view, far);
+        let (far, ahead) = (self.far(rt), self.ahead(view));
+        let elsewhere = far.or(&ahead);
+        self.station.passed_over().look_again(rt, view, elsewhere);
         self.station.left_out().look();
-        let ahead = self.ahead(view, &far);
-        self.station.forerunners().look(rt, &ahead).then_some(view)
+        self.follows(rt, &ahead, &far).then_some(view)
     }
 
     /// What is seen of the replica.
@@ -147,7 +156,9 @@ impl<'s, 'a> Watched for Timed<'s, 'a> {
     fn pulse<R: Wait>(&self, rt: &R) -> Pulse {
         let seen = self.seen(rt);
         let is_here = !self.is_away(rt, seen.height);
-        let waits = self.station.comeback().is_near(seen.height) && self.is_met(seen.view);
+        let is_met = self.is_met(seen.view);
+        self.station.note_alone(!is_met);
+        let waits = self.station.comeback().is_near(seen.height) && is_met;
         Pulse {
             wants_beat: is_here && seen.wants_beat,
             wants_beat_now: is_here && seen.wants_beat_now,
