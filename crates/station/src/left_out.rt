@@ -16,6 +16,8 @@ pub(crate) struct LeftOut {
     looks: AtomicU64,
     /// One more than how often it had looked when each told it last; 0 where one never did.
     told: Vec<AtomicU64>,
+    /// How many may be faulty.
+    faults: usize,
 }
 
 impl LeftOut {
@@ -28,6 +30,7 @@ impl LeftOut {
         Ok(LeftOut {
             looks: AtomicU64::new(0),
             told,
+            faults: usize::from(config.faults()),
         })
     }
 
@@ -44,10 +47,11 @@ impl LeftOut {
         }
     }
 
-    /// Whether a replica told it at any time.
-    pub(crate) fn ever(&self, replica: ReplicaId) -> bool {
+    /// Whether a replica told it at any time, and no more did than may be faulty: so the others can go on without it.
+    pub(crate) fn is_one_of_few(&self, replica: ReplicaId) -> bool {
+        let ever = self.told.iter().filter(|told| told.load(SeqCst) > 0);
         let told = self.told.get(usize::from(replica.0));
-        told.is_some_and(|told| told.load(SeqCst) > 0)
+        ever.count() <= self.faults && told.is_some_and(|told| told.load(SeqCst) > 0)
     }
 
     /// Whether any told it of late.

@@ -197,13 +197,13 @@ impl<P: Post> Outgoing for Outside<'_, '_, P> {
 
 /// The questions stand under the replica's lock, where its doorkeeper learns on whose account a block comes.
 impl<P: Post> Questioned for Outside<'_, '_, P> {
-    /// The first question goes out after a pause: votes that give grounds are mostly on their way. To one that is left out they
-    /// aren't.
+    /// The first question goes out after a pause: votes that give grounds are mostly on their way. To one that is left out and
+    /// a little behind they aren't, and others have the block.
     fn need<R: Wait + Clock>(&self, rt: &R, block: Digest, payer: ReplicaId) {
         let now = self.now(rt);
-        let is_left_out = self.is_left_out();
+        let trails = self.trails();
         let questions = &mut self.station.lock(rt).questions;
-        let pause = if is_left_out { 0 } else { questions.wait() };
+        let pause = if trails { 0 } else { questions.wait() };
         let due = now.saturating_add(pause);
         let _refused = questions.need(block, payer, None, due);
     }
@@ -240,7 +240,7 @@ impl<P: Post> Questioned for Outside<'_, '_, P> {
         sender: ReplicaId,
     ) {
         let now = self.now(rt);
-        let whom = (!self.is_left_out()).then_some(sender);
+        let whom = (!self.trails()).then_some(sender);
         let questions = &mut self.station.lock(rt).questions;
         let payer = questions.payer(block).unwrap_or(sender);
         let _refused = questions.need(parent, payer, whom, now);
@@ -270,10 +270,10 @@ impl<P: Post> Questioned for Outside<'_, '_, P> {
         copies_of(alloc, questions.copies(block)).ok()
     }
 
-    /// Of who is far behind, or left out, no copy is tried alone: what others sent it wasn't good.
+    /// Of who is far behind, or left out and a little behind, no copy is tried alone: what others sent it wasn't good.
     fn use_of<R: Wait>(&self, rt: &R, block: &Digest, parent: &Digest, bytes: usize) -> CopyUse {
         let is_away = self.station.comeback().is_away();
-        let is_left_out = self.is_left_out();
+        let goes_by_copies = is_away || self.trails();
         let guarded = self.station.lock(rt);
         let questions = &guarded.questions;
         if is_away && !questions.is_wanted(block) {
@@ -283,7 +283,7 @@ impl<P: Post> Questioned for Outside<'_, '_, P> {
             return CopyUse::Alone;
         }
         if !is_early(&guarded, parent) {
-            return if is_away || is_left_out {
+            return if goes_by_copies {
                 CopyUse::Together
             } else {
                 CopyUse::Alone

@@ -115,10 +115,11 @@ impl<'s, 'a> Timed<'s, 'a> {
         self.station.forerunners().look(rt, &forerunners)
     }
 
-    /// Whether the replica waits until the end of this view is due once more: it is left out by some votes. If it were the first to leave,
-    /// others could go on with those in place of its own.
+    /// Whether the replica waits until the end of this view is due once more: it is left out by some votes, and few are. If it were the
+    /// first to leave, others could go on with those in place of its own.
     fn holds_back(&self, view: View) -> bool {
-        self.station.left_out().ever(self.station.number()) && self.station.note_held(view)
+        let left_out = self.station.left_out();
+        left_out.is_one_of_few(self.station.number()) && self.station.note_held(view)
     }
 
     /// What the clock's look changes for others: whose votes the replica passes over, to whom its own go; and which view is to
