@@ -17,17 +17,17 @@ struct Told {
 }
 
 impl Told {
-    /// Whether one that told something is elsewhere.
-    fn is_void(&self) -> bool {
-        (0..MOST_REPLICAS as u8).any(|number| self.elsewhere.has(ReplicaId(number))
+    /// Whether one of these told something.
+    fn is_by(&self, replicas: &ReplicaSet) -> bool {
+        (0..MOST_REPLICAS as u8).any(|number| replicas.has(ReplicaId(number))
             && self.passing.has_told(ReplicaId(number)))
     }
 
-    /// The replica's clock finds these elsewhere. Whether what was told is void: one that told something is among them. Who
-    /// isn't tells it again.
-    fn see(&mut self, elsewhere: ReplicaSet) -> bool {
-        self.elsewhere = elsewhere;
-        let is_void = self.is_void();
+    /// The replica's clock finds these far behind, and these ahead. Whether what was told is void: one that is far behind told
+    /// something. Who isn't tells it again.
+    fn see(&mut self, far: &ReplicaSet, ahead: &ReplicaSet) -> bool {
+        self.elsewhere = far.or(ahead);
+        let is_void = self.is_by(far);
         if is_void {
             self.passing.forget();
             self.passing.hear_all();
@@ -79,15 +79,21 @@ impl PassedOver {
         before > 0 && left == 0
     }
 
-    /// The replica's clock looks, once in `LOOK_MILLIS`, and finds it in this view, and these elsewhere. The next refused frame is to
-    /// be looked at.
-    pub(crate) fn look_again<R: Wait>(&self, rt: &R, view: View, elsewhere: ReplicaSet) {
+    /// The replica's clock looks, once in `LOOK_MILLIS`, and finds it in this view, these far behind, and these ahead. The next refused
+    /// frame is to be looked at.
+    pub(crate) fn look_again<R: Wait>(
+        &self,
+        rt: &R,
+        view: View,
+        far: &ReplicaSet,
+        ahead: &ReplicaSet,
+    ) {
         let hears_again = self.hears_again(view);
         let mut told = self.told.lock(rt);
         if hears_again {
             told.passing.hear_all();
         }
-        if told.see(elsewhere) {
+        if told.see(far, ahead) {
             self.are_any.store(false, SeqCst);
         }
         self.is_asked.store(true, SeqCst);

@@ -126,8 +126,9 @@ impl<'s, 'a> Timed<'s, 'a> {
     /// end, if one is, since others follow one that left it. Who is far behind, or left the view, couldn't vote in it.
     fn look_around<R: Wait>(&self, rt: &R, view: View) -> Option<View> {
         let (far, ahead) = (self.far(rt), self.ahead(view));
-        let elsewhere = far.or(&ahead);
-        self.station.passed_over().look_again(rt, view, elsewhere);
+        self.station
+            .passed_over()
+            .look_again(rt, view, &far, &ahead);
         self.station.left_out().look();
         self.follows(rt, &ahead, &far).then_some(view)
     }
