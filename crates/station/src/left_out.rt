@@ -54,9 +54,10 @@ impl LeftOut {
         ever.count() <= self.faults && told.is_some_and(|told| told.load(SeqCst) > 0)
     }
 
-    /// Whether any told it of late.
-    pub(crate) fn are_any(&self) -> bool {
-        (0..MOST_REPLICAS as u8).any(|number| self.has(ReplicaId(number)))
+    /// Whether some told it of late, and no more than may be faulty.
+    pub(crate) fn are_few(&self) -> bool {
+        let many = self.all().len();
+        0 < many && many <= self.faults
     }
 
     /// Whether a replica told it of late.

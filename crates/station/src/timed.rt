@@ -101,18 +101,18 @@ impl<'s, 'a> Timed<'s, 'a> {
         ahead
     }
 
-    /// Whether the replica follows one that is ahead and isn't far behind: where votes weren't right for somebody of late, so that others
-    /// may go on without those of one that left.
+    /// Whether the replica follows one that is ahead and isn't far behind: where votes weren't right for a few of late, so that others may
+    /// go on without those of one that left.
     fn follows<R: Wait>(&self, rt: &R, ahead: &ReplicaSet, far: &ReplicaSet) -> bool {
-        let are_any = self.station.left_out().are_any();
-        let mut forerunners = ReplicaSet::none();
+        let are_few = self.station.left_out().are_few();
+        let mut found = ReplicaSet::none();
         for number in 0..self.sights.config().n() {
             let replica = ReplicaId(number);
-            if are_any && ahead.has(replica) && !far.has(replica) {
-                forerunners.add(replica);
+            if are_few && ahead.has(replica) && !far.has(replica) {
+                found.add(replica);
             }
         }
-        self.station.forerunners().look(rt, &forerunners)
+        self.station.forerunners().look(rt, &found)
     }
 
     /// Whether the replica waits until the end of this view is due once more: it is left out by some votes, and few are. If it were the
