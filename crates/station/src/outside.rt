@@ -41,8 +41,8 @@ pub(crate) struct Outside<'s, 'a, P> {
 }
 
 impl<P: Post> Outside<'_, '_, P> {
-    /// Tells all others whose votes weren't right for the replica: who leads does without them, and the
-    /// others' votes go to it, too. Not while it is behind: it couldn't vote in their place, and no quorum would be left.
+    /// Tells all others whose votes weren't right for the replica: who leads does without them, and the others' votes go to it,
+    /// too. Not while it is behind: it couldn't vote in their place, and no quorum would be left.
     fn tell_doubt<R: Wait>(&self, rt: &R, voters: ReplicaSet) {
         if !self.station.comeback().is_near(self.station.height(rt)) {
             return;
@@ -73,6 +73,12 @@ impl<'s, 'a, P> Outside<'s, 'a, P> {
     /// Whether votes weren't right for the replica of late.
     fn is_left_out(&self) -> bool {
         self.station.left_out().has(self.station.number())
+    }
+
+    /// Whether others have what the replica can't take alone: few are left out, it among them, or it is a little behind, too.
+    fn goes_by_others(&self) -> bool {
+        let (left_out, comeback) = (self.station.left_out(), self.station.comeback());
+        self.is_left_out() && (left_out.are_few() || comeback.trails())
     }
 
     /// The milliseconds since its worker began.
@@ -197,13 +203,13 @@ impl<P: Post> Outgoing for Outside<'_, '_, P> {
 
 /// The questions stand under the replica's lock, where its doorkeeper learns on whose account a block comes.
 impl<P: Post> Questioned for Outside<'_, '_, P> {
-    /// The first question goes out after a pause: votes that give grounds are mostly on their way. To one that is left out and
-    /// a little behind they aren't, and others have the block.
+    /// The first question goes out after a pause: votes that give grounds are mostly on their way. To one that is left out they
+    /// aren't, and others have the block.
     fn need<R: Wait + Clock>(&self, rt: &R, block: Digest, payer: ReplicaId) {
         let now = self.now(rt);
-        let trails = self.trails();
+        let is_at_once = self.goes_by_others();
         let questions = &mut self.station.lock(rt).questions;
-        let pause = if trails { 0 } else { questions.wait() };
+        let pause = if is_at_once { 0 } else { questions.wait() };
         let due = now.saturating_add(pause);
         let _refused = questions.need(block, payer, None, due);
     }
@@ -240,7 +246,7 @@ impl<P: Post> Questioned for Outside<'_, '_, P> {
         sender: ReplicaId,
     ) {
         let now = self.now(rt);
-        let whom = (!self.trails()).then_some(sender);
+        let whom = (!self.goes_by_others()).then_some(sender);
         let questions = &mut self.station.lock(rt).questions;
         let payer = questions.payer(block).unwrap_or(sender);
         let _refused = questions.need(parent, payer, whom, now);
@@ -270,10 +276,10 @@ impl<P: Post> Questioned for Outside<'_, '_, P> {
         copies_of(alloc, questions.copies(block)).ok()
     }
 
-    /// Of who is far behind, or left out and a little behind, no copy is tried alone: what others sent it wasn't good.
+    /// Of who is far behind, or left out, no copy is tried alone: what others sent it wasn't good.
     fn use_of<R: Wait>(&self, rt: &R, block: &Digest, parent: &Digest, bytes: usize) -> CopyUse {
         let is_away = self.station.comeback().is_away();
-        let goes_by_copies = is_away || self.trails();
+        let goes_by_copies = is_away || self.goes_by_others();
         let guarded = self.station.lock(rt);
         let questions = &guarded.questions;
         if is_away && !questions.is_wanted(block) {
