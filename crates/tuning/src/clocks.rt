@@ -56,8 +56,8 @@ pub const BEGINNING_SLACK: u64 = 2;
 /// all with blocks that are never decided.
 pub const MOST_UNDECIDED: u64 = 2 * MOST_CLIMB;
 
-/// Milliseconds for which a replica that told of votes may be in a later view than the others until they follow it; twice as many each
-/// time. Fewer: liars end views. More: a correct one falls behind that left its view before the others.
+/// Milliseconds for which one may be in a later view than the others, while votes aren't right for a few, until they follow it; twice as
+/// many each time. Fewer: liars end views. More: who is left out falls behind.
 pub const FOLLOW_MILLIS: u64 = 1000;
 
 /// Those, at most; and for how many it has to be in the others' view until they are as few as at first. Fewer: liars end more views.
