@@ -75,10 +75,9 @@ impl<'s, 'a, P> Outside<'s, 'a, P> {
         self.station.left_out().has(self.station.number())
     }
 
-    /// Whether others have what the replica can't take alone: few are left out, it among them, or it is a little behind, too.
+    /// Whether others have what the replica can't take alone: it is left out, and a little behind.
     fn goes_by_others(&self) -> bool {
-        let (left_out, comeback) = (self.station.left_out(), self.station.comeback());
-        self.is_left_out() && (left_out.are_few() || comeback.trails())
+        self.is_left_out() && self.station.comeback().trails()
     }
 
     /// The milliseconds since its worker began.
@@ -102,7 +101,7 @@ impl<P: Post> Recording for Outside<'_, '_, P> {
     }
 
     fn trails(&self) -> bool {
-        self.station.comeback().trails() && self.is_left_out()
+        self.goes_by_others()
     }
 
     fn answer<R: Wait + Clock>(&self, rt: &R, alloc: Global, from: ReplicaId, question: Question) {
