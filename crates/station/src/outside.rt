@@ -275,7 +275,7 @@ impl<P: Post> Questioned for Outside<'_, '_, P> {
         copies_of(alloc, questions.copies(block)).ok()
     }
 
-    /// Of who is far behind, or left out, no copy is tried alone: what others sent it wasn't good.
+    /// Of who is far behind, or left out and a little behind, no copy is tried alone: what others sent it wasn't good.
     fn use_of<R: Wait>(&self, rt: &R, block: &Digest, parent: &Digest, bytes: usize) -> CopyUse {
         let is_away = self.station.comeback().is_away();
         let goes_by_copies = is_away || self.goes_by_others();
